@@ -1,0 +1,74 @@
+-- What a call answers and leaves, case by case. Assumes nothing.
+use mathlib.Core.Path.{_≡_, refl, sym, ap, _∙_, fun-ext}
+use mathlib.Core.Bool.{cond, true, false}
+use mathlib.Core.List.{List, [], _∷_}
+use mathlib.Core.Logic.{_⊎_, inl, inr, ⊎-elim}
+use Prim.Native.Nat.{ℕ, zero, suc, _+_, _-_, _<_, _≤_}
+use native.Mathlib.Nat.{add-zero, add-suc, suc-add}
+use native.Mathlib.Omega.{arith}
+use lib.ListN.{length, getD}
+use Rattle.std.specs.declared.result.Result.{Result}
+use Rattle.std.specs.declared.result.Result.the-variants.{Ok, Err}
+use Rattle.std.specs.Results.{isOk, andOther}
+use Rattle.std.proofs.shelf.Tests.{cond-true, cond-false}
+use Rattle.memory.specs.declared.fault.Fault.{Fault}
+use Rattle.memory.specs.Bytes.{within}
+use Rattle.memory.specs.Run.{bounded}
+use Rattle.memory.specs.Meaning.{Cell, byte, fault, Meaning}
+use Rattle.memory.specs.Calls.{plain, sound, answer, value, bytes, delivered, stored, written}
+
+module _ (m : Meaning) (a : ℕ) where
+  pub answer-outside : (n : ℕ) (f : Fault) → bounded (m .size) a n ≡ Err f → answer m a n ≡ Err f
+  unfolding answer
+  answer-outside n f e = rw e
+
+  pub answer-inside : (n : ℕ) → bounded (m .size) a n ≡ Ok tt → answer m a n ≡ sound (m .cell) a n
+  unfolding answer
+  answer-inside n e = rw e
+
+  pub delivered-refused : (b : List ℕ) (f : Fault) → answer m a (length b) ≡ Err f → delivered m a b ≡ b
+  unfolding delivered
+  delivered-refused b f e = rw e
+
+  pub delivered-accepted : (b : List ℕ) → answer m a (length b) ≡ Ok tt → delivered m a b ≡ bytes (m .cell) a (length b)
+  unfolding delivered
+  delivered-accepted b e = rw e
+
+  pub written-refused : (bs : List ℕ) (f : Fault) → answer m a (length bs) ≡ Err f → written m a bs ≡ m
+  unfolding written
+  written-refused bs f e = rw e
+
+  pub written-accepted : (bs : List ℕ) → answer m a (length bs) ≡ Ok tt → written m a bs ≡ stored m a bs
+  unfolding written
+  written-accepted bs e = rw e
+
+-- no cell of the run is a fault
+pub sound-all : (cell : ℕ → Cell) (a n : ℕ) → ((i : ℕ) → a ≤ i → i < a + n → plain (cell i) ≡ Ok tt) → sound cell a n ≡ Ok tt
+unfolding sound
+sound-all cell a zero all = refl
+sound-all cell a (suc n) all =
+    rw (all a (omega arith) (omega arith)) (sound-all cell (suc a) n (λ i low high. all i (omega arith) (omega arith)))
+
+-- the first cell of the run is a fault
+pub sound-first : (cell : ℕ → Cell) (a n : ℕ) (f : Fault) → 0 < n → cell a ≡ fault f → sound cell a n ≡ Err f
+unfolding sound
+sound-first cell a zero f some e = absurd (omega arith)
+sound-first cell a (suc n) f some e = rw e
+
+pub bytes-are : (cell : ℕ → Cell) (a : ℕ) (xs : List ℕ) → ((k : ℕ) → k < length xs → value (cell (a + k)) ≡ getD xs k 0) → bytes cell a (length xs) ≡ xs
+unfolding bytes
+bytes-are cell a [] each = refl
+bytes-are cell a (x ∷ xs) each =
+    let head : value (cell a) ≡ x = rw add-zero at (each 0 (omega arith)) in
+    let tail : bytes cell (suc a) (length xs) ≡ xs =
+    bytes-are cell (suc a) xs (λ k low. ap (λ i. value (cell i)) (omega arith) ∙ each (suc k) (omega arith)) in
+    cc
+
+-- two meanings with one size and the same cells are equal
+pub same-meaning : (m n : Meaning) → m .size ≡ n .size → ((i : ℕ) → m .cell i ≡ n .cell i) → m ≡ n
+same-meaning m n size cells = λ i. record { size = size i; cell = fun-ext cells i }
+
+-- a meaning that has the run's bytes, and all other cells of m
+pub is-stored : (m n : Meaning) (a : ℕ) (bs : List ℕ) → n .size ≡ m .size → ((i : ℕ) → n .cell i ≡ cond (within a (length bs) i) (byte (getD bs (i - a) 0)) (m .cell i)) → n ≡ stored m a bs
+unfolding stored
+is-stored m n a bs size cells = same-meaning n (stored m a bs) size cells
