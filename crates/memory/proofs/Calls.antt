@@ -10,11 +10,12 @@ use lib.ListN.{length, getD}
 use Rattle.std.specs.declared.result.Result.{Result}
 use Rattle.std.specs.declared.result.Result.the-variants.{Ok, Err}
 use Rattle.std.specs.Results.{isOk, andOther}
-use Rattle.std.proofs.shelf.Tests.{cond-true, cond-false}
+use Rattle.std.proofs.shelf.Tests.{cond-true, cond-false, and-from, and-left, and-right, le-leb, lt-leb, lt-ltb, le-ltb}
 use Rattle.memory.specs.declared.fault.Fault.{Fault}
 use Rattle.memory.specs.Bytes.{within}
 use Rattle.memory.specs.Run.{bounded}
 use Rattle.memory.specs.Meaning.{Cell, byte, fault, Meaning}
+use Rattle.memory.proofs.Overlays.{Inside, Outside, cases-run}
 use Rattle.memory.specs.Calls.{plain, sound, answer, value, bytes, delivered, stored, written}
 
 module _ (m : Meaning) (a : ℕ) where
@@ -64,11 +65,20 @@ bytes-are cell a (x ∷ xs) each =
     bytes-are cell (suc a) xs (λ k low. ap (λ i. value (cell i)) (omega arith) ∙ each (suc k) (omega arith)) in
     cc
 
+not-within : (a n i : ℕ) → Outside a n i → within a n i ≡ false
+not-within a n i (inl low) = and-left _ _ (lt-leb a i low)
+not-within a n i (inr high) = and-right _ _ (le-ltb i (a + n) high)
+
 -- two meanings with one size and the same cells are equal
 pub same-meaning : (m n : Meaning) → m .size ≡ n .size → ((i : ℕ) → m .cell i ≡ n .cell i) → m ≡ n
 same-meaning m n size cells = λ i. record { size = size i; cell = fun-ext cells i }
 
 -- a meaning that has the run's bytes, and all other cells of m
-pub is-stored : (m n : Meaning) (a : ℕ) (bs : List ℕ) → n .size ≡ m .size → ((i : ℕ) → n .cell i ≡ cond (within a (length bs) i) (byte (getD bs (i - a) 0)) (m .cell i)) → n ≡ stored m a bs
+pub is-stored : (m n : Meaning) (a : ℕ) (bs : List ℕ) → n .size ≡ m .size → ((i : ℕ) → Inside a (length bs) i → n .cell i ≡ byte (getD bs (i - a) 0)) → ((i : ℕ) → Outside a (length bs) i → n .cell i ≡ m .cell i) → n ≡ stored m a bs
 unfolding stored
-is-stored m n a bs size cells = same-meaning n (stored m a bs) size cells
+is-stored m n a bs size new old =
+    same-meaning n (stored m a bs) size
+    (λ i. ⊎-elim
+    (λ run. new i run ∙ sym (cond-true _ _ _ (and-from _ _ (le-leb a i (run .0)) (lt-ltb i (a + length bs) (run .1)))))
+    (λ run. old i run ∙ sym (cond-false _ _ _ (not-within a (length bs) i run)))
+    (cases-run a (length bs) i))

@@ -7,11 +7,11 @@ use lib.ListN.{length, getD, take, drop}
 use Rattle.std.specs.declared.result.Result.the-variants.{Ok, Err}
 use Rattle.std.proofs.shelf.Lists.{length-take, length-drop, getD-take, getD-drop}
 use Rattle.memory.specs.declared.fault.Fault.{Fault}
-use Rattle.memory.specs.Bytes.{overlaid, within}
+use Rattle.memory.specs.Bytes.{overlaid}
 use Rattle.memory.specs.Run.{bounded}
 use Rattle.memory.specs.Meaning.{byte, cells}
 use Rattle.memory.specs.Calls.{answer, bytes, delivered, stored, written}
-use Rattle.memory.proofs.Overlays.{length-overlaid, getD-overlaid, overlaid-low, under-cond}
+use Rattle.memory.proofs.Overlays.{length-overlaid, overlaid-inside, overlaid-outside, overlaid-low}
 use Rattle.memory.proofs.Runs.{Taken, taken}
 use Rattle.memory.proofs.Calls.{answer-outside, answer-inside, sound-all, bytes-are, delivered-accepted, written-accepted, is-stored}
 use Rattle.plain.specs.Plain.{holding, updated, Coherent}
@@ -55,8 +55,10 @@ module _ {size : ℕ} {xs : List ℕ} (c : Coherent size xs) (a : ℕ) (bs : Lis
   pub write-meaning : holding (overlaid xs a bs) ≡ written (holding xs) a bs
   unfolding holding
   write-meaning =
-      is-stored (holding xs) (holding (overlaid xs a bs)) a bs (ap (λ n. cells (n / 128)) (length-overlaid xs bs a fits))
-      (λ i. ap byte (getD-overlaid xs bs a fits i) ∙ under-cond byte (within a (length bs) i) _ _)
+      is-stored (holding xs) (holding (overlaid xs a bs)) a bs
+      (ap (λ n. cells (n / 128)) (length-overlaid xs bs a fits))
+      (λ i run. ap byte (overlaid-inside xs bs a fits i 0 run))
+      (λ i run. ap byte (overlaid-outside xs bs a fits i 0 run))
       ∙ sym (written-accepted (holding xs) a bs (accepted c a (length bs) e))
 
   pub write-coherent : ((i : ℕ) → getD bs i 0 < 256) → Coherent size (overlaid xs a bs)

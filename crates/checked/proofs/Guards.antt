@@ -1,0 +1,144 @@
+-- The calls of a checked memory by its fields. Assumes nothing.
+use mathlib.Core.Path.{_≡_, refl, sym, ap, _∙_}
+use mathlib.Core.Bool.{Bool, true, false, cond}
+use mathlib.Core.List.{List}
+use mathlib.Core.Logic.{⊎-elim}
+use Prim.Native.Nat.{ℕ, _+_, _-_, _*_, _/_, _%_, _<_, _≤_}
+use native.Mathlib.Omega.{arith}
+use lib.Dec.{eqb}
+use lib.ListN.{length, getD, take, drop}
+use Rattle.std.specs.declared.result.Result.{Result}
+use Rattle.std.specs.declared.result.Result.the-variants.{Ok, Err}
+use Rattle.std.proofs.shelf.Lists.{length-take, length-drop, getD-take, getD-drop}
+use Rattle.std.proofs.shelf.Tests.{cases-eq, cond-true, cond-false, eq-eqb, ne-eqb}
+use Rattle.memory.specs.declared.fault.Cause.the-variants.{FailedCheck}
+use Rattle.memory.specs.declared.fault.Fault.{Fault}
+use Rattle.memory.specs.Fault.{refusal}
+use Rattle.memory.specs.Run.{bounded}
+use Rattle.memory.specs.Meaning.{byte, fault, cells}
+use Rattle.memory.specs.Calls.{plain, value, answer, bytes, delivered, written}
+use Rattle.memory.proofs.Overlays.{Inside, Outside}
+use Rattle.memory.proofs.Runs.{Taken, taken}
+use Rattle.memory.proofs.Calls.{answer-outside, answer-inside, sound-all, sound-first, bytes-are, delivered-accepted, written-accepted, is-stored}
+use Rattle.checked.specs.Line.{xorAll, start, line, verdict}
+use Rattle.checked.specs.Checked.{guarded, guarding, renewed, updated, Coherent}
+use Rattle.checked.proofs.Xors.{xor-sealed}
+use Rattle.checked.proofs.Lines.{length-renewed, line-same, line-other, getD-other, getD-run, getD-beside, renewed-low}
+
+-- a verdict, read back
+abbrev judged : Bool → Fault → Result (Unit {0}) Fault
+judged b f = cond b (Ok tt) (Err f)
+
+passed : (b : Bool) (f : Fault) → judged b f ≡ Ok tt → b ≡ true
+passed true f e = refl
+passed false f e = let z : _≡_ {A = ℕ} 0 1 = cc in absurd (omega arith)
+
+failed : (b : Bool) (f g : Fault) → judged b f ≡ Err g → (b ≡ false) × (f ≡ g)
+failed true f g e = let z : _≡_ {A = ℕ} 0 1 = cc in absurd (omega arith)
+failed false f g e = (refl, cc)
+
+module _ (xs : List ℕ) (a : ℕ) where
+  -- all the cells of a line that passes its check are bytes
+  pub guarded-byte : verdict xs a ≡ Ok tt → (i : ℕ) → i / 128 ≡ a / 128 → guarded xs i ≡ byte (getD xs (start i + i % 128) 0)
+  unfolding verdict line
+  guarded-byte ok i here = rw (ap (λ k. take 129 (drop (k * 129) xs)) here, passed (eqb (xorAll (line xs a)) 0) _ ok)
+
+  pub verdict-fails : (xorAll (line xs a) ≡ 0 → ⊥) → verdict xs a ≡ Err (refusal FailedCheck a)
+  unfolding verdict
+  verdict-fails differs = cond-false _ _ _ (ne-eqb _ _ differs)
+
+  pub verdict-passes : xorAll (line xs a) ≡ 0 → verdict xs a ≡ Ok tt
+  unfolding verdict
+  verdict-passes same = cond-true _ _ _ (eq-eqb _ _ same)
+
+  pub guarded-fault : (f : Fault) → verdict xs a ≡ Err f → guarded xs a ≡ fault f
+  unfolding verdict
+  guarded-fault f e =
+      let p = failed (eqb (xorAll (line xs a)) 0) (refusal FailedCheck a) f e in
+      rw (p .0) (ap fault (p .1))
+
+module _ {size : ℕ} {xs : List ℕ} (c : Coherent size xs) (a n : ℕ) where
+  pub refused : (f : Fault) → bounded size a n ≡ Err f → answer (guarding xs) a n ≡ Err f
+  unfolding guarding
+  refused f e = answer-outside (guarding xs) a n f (rw (c .sized) at e)
+
+  module _ (inside : bounded size a n ≡ Ok tt) where
+    run : Taken size a n
+    run = taken size a n inside
+
+    pub whole : start a + 129 ≤ length xs
+    whole = omega (arith, c .sized, run)
+
+    pub in-line : a % 128 + n ≤ 128
+    in-line = run .line
+
+    pub refused-line : (f : Fault) → verdict xs a ≡ Err f → answer (guarding xs) a n ≡ Err f
+    unfolding guarding
+    refused-line f e =
+        answer-inside (guarding xs) a n (rw (c .sized) at inside) ∙ sound-first _ a n f (run .some) (guarded-fault xs a f e)
+
+    pub accepted : verdict xs a ≡ Ok tt → answer (guarding xs) a n ≡ Ok tt
+    unfolding guarding
+    accepted ok =
+        answer-inside (guarding xs) a n (rw (c .sized) at inside)
+        ∙ sound-all _ a n (λ i low high. ap plain (guarded-byte xs a ok i (omega (arith, run))))
+
+-- a read at a run that is taken, in a line that passes its check
+pub read-part : {size : ℕ} {xs : List ℕ} (c : Coherent size xs) (a : ℕ) (b : List ℕ) → bounded size a (length b) ≡ Ok tt → verdict xs a ≡ Ok tt → delivered (guarding xs) a b ≡ take (length b) (drop (start a + a % 128) xs)
+unfolding guarding
+read-part {size} {xs} c a b inside ok =
+    let here : start a + 129 ≤ length xs = whole c a (length b) inside in
+    let fits : a % 128 + length b ≤ 128 = in-line c a (length b) inside in
+    let at : ℕ = start a + a % 128 in
+    let long : length (take (length b) (drop at xs)) ≡ length b = simp (length-take, length-drop) (omega arith) in
+    delivered-accepted (guarding xs) a b (accepted c a (length b) inside ok)
+    ∙ ap (bytes (guarded xs) a) (sym long)
+    ∙ bytes-are (guarded xs) a (take (length b) (drop at xs))
+    (λ k low.
+    ap value (guarded-byte xs a ok (a + k) (omega arith))
+    ∙ ap (λ j. getD xs j 0) (omega arith)
+    ∙ sym (getD-take (length b) (drop at xs) k 0 (omega arith) ∙ getD-drop at xs k 0))
+
+pub keeps-bytes : (xs : List ℕ) (a : ℕ) (bs : List ℕ) (f : Fault) → answer (guarding xs) a (length bs) ≡ Err f → updated xs a bs ≡ xs
+unfolding updated
+keeps-bytes xs a bs f e = rw e
+
+-- a write at such a run
+module _ {size : ℕ} {xs : List ℕ} (c : Coherent size xs) (a : ℕ) (bs : List ℕ) (inside : bounded size a (length bs) ≡ Ok tt) where
+  here : start a + 129 ≤ length xs
+  here = whole c a (length bs) inside
+
+  fits : a % 128 + length bs ≤ 128
+  fits = in-line c a (length bs) inside
+
+  pub write-coherent : ((i : ℕ) → getD bs i 0 < 256) → Coherent size (renewed xs a bs)
+  write-coherent low = record {
+    sized = c .sized ∙ ap (λ n. cells (n / 129)) (sym (length-renewed xs a bs here fits));
+    low = renewed-low xs a bs here fits (c .low) low;
+  }
+
+  module _ (ok : verdict xs a ≡ Ok tt) where
+    pub write-bytes : renewed xs a bs ≡ updated xs a bs
+    unfolding updated
+    write-bytes = rw (accepted c a (length bs) inside ok)
+
+    -- after the write the line passes its check
+    sound-line : (i : ℕ) → i / 128 ≡ a / 128 → guarded (renewed xs a bs) i ≡ byte (getD (renewed xs a bs) (start i + i % 128) 0)
+    sound-line i same = rw (line-same xs a bs here fits i same, xor-sealed)
+
+    other-line : (i : ℕ) → (i / 128 ≡ a / 128 → ⊥) → guarded (renewed xs a bs) i ≡ guarded xs i
+    other-line i other = rw (line-other xs a bs here fits i other, getD-other xs a bs here fits i (i % 128) other (omega arith))
+
+    pub write-meaning : guarding (renewed xs a bs) ≡ written (guarding xs) a bs
+    unfolding guarding
+    write-meaning =
+        is-stored (guarding xs) (guarding (renewed xs a bs)) a bs
+        (ap (λ n. cells (n / 129)) (length-renewed xs a bs here fits))
+        (λ i run.
+        let same : i / 128 ≡ a / 128 = omega (arith, fits) in
+        sound-line i same ∙ ap byte (getD-run xs a bs here fits i same run))
+        (λ i run. ⊎-elim
+        (λ same. sound-line i same ∙ ap byte (getD-beside xs a bs here fits i same run) ∙ sym (guarded-byte xs a ok i same))
+        (other-line i)
+        (cases-eq (i / 128) (a / 128)))
+        ∙ sym (written-accepted (guarding xs) a bs (accepted c a (length bs) inside ok))
