@@ -65,7 +65,10 @@ bytes-are cell a (x ∷ xs) each =
     bytes-are cell (suc a) xs (λ k low. ap (λ i. value (cell i)) (omega arith) ∙ each (suc k) (omega arith)) in
     cc
 
-not-within : (a n i : ℕ) → Outside a n i → within a n i ≡ false
+pub is-within : (a n i : ℕ) → Inside a n i → within a n i ≡ true
+is-within a n i run = and-from _ _ (le-leb a i (run .0)) (lt-ltb i (a + n) (run .1))
+
+pub not-within : (a n i : ℕ) → Outside a n i → within a n i ≡ false
 not-within a n i (inl low) = and-left _ _ (lt-leb a i low)
 not-within a n i (inr high) = and-right _ _ (le-ltb i (a + n) high)
 
@@ -79,6 +82,6 @@ unfolding stored
 is-stored m n a bs size new old =
     same-meaning n (stored m a bs) size
     (λ i. ⊎-elim
-    (λ run. new i run ∙ sym (cond-true _ _ _ (and-from _ _ (le-leb a i (run .0)) (lt-ltb i (a + length bs) (run .1)))))
+    (λ run. new i run ∙ sym (cond-true _ _ _ (is-within a (length bs) i run)))
     (λ run. old i run ∙ sym (cond-false _ _ _ (not-within a (length bs) i run)))
     (cases-run a (length bs) i))

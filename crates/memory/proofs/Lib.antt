@@ -1,3 +1,4 @@
 pub mod Runs
 pub mod Overlays
 pub mod Calls
+pub mod Writes

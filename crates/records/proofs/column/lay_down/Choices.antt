@@ -1,0 +1,17 @@
+use mathlib.Core.Path.{_≡_}
+use Prim.Native.Nat.{ℕ, _+_, _-_, _*_, _≤_}
+use lib.ListN.{length, take, drop}
+use Rattle.std.specs.Joined.{joined}
+use Rattle.memory.specs.Calls.{answer, stored}
+use Rattle.records.specs.Record.{recordOf}
+use Rattle.records.specs.Column.{laying, fitting}
+use Rattle.records.proofs.Columns.{Laying}
+use Rattle.records.proofs.column.lay_down.Given as given
+
+-- The records so far are laid down, and what is left answers for the whole.
+abbrev pub Inv-loop-price : given.InvT-loop-price
+Inv-loop-price g l =
+    let m = g .M·Memory in
+    Laying (m .meaning (l .entry .memory)) (m .meaning (l .memory)) (l .prices) (l .price-index)
+    × m .coherent (l .memory)
+    × (l .address ≡ l .price-index * 128)
