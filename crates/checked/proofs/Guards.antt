@@ -10,7 +10,7 @@ use lib.ListN.{length, getD, take, drop}
 use Rattle.std.specs.declared.result.Result.{Result}
 use Rattle.std.specs.declared.result.Result.the-variants.{Ok, Err}
 use Rattle.std.proofs.shelf.Lists.{length-take, length-drop, getD-take, getD-drop}
-use Rattle.std.proofs.shelf.Tests.{cases-eq, cond-true, cond-false, eq-eqb, ne-eqb}
+use Rattle.std.proofs.shelf.Tests.{cases-eq, cond-true, cond-false, eq-eqb, ne-eqb, eqb-true}
 use Rattle.memory.specs.declared.fault.Cause.the-variants.{FailedCheck}
 use Rattle.memory.specs.declared.fault.Fault.{Fault}
 use Rattle.memory.specs.Fault.{refusal}
@@ -42,6 +42,10 @@ module _ (xs : List ℕ) (a : ℕ) where
   pub guarded-byte : verdict xs a ≡ Ok tt → (i : ℕ) → i / 128 ≡ a / 128 → guarded xs i ≡ byte (getD xs (start i + i % 128) 0)
   unfolding verdict line
   guarded-byte ok i here = rw (ap (λ k. take 129 (drop (k * 129) xs)) here, passed (eqb (xorAll (line xs a)) 0) _ ok)
+
+  pub verdict-read : verdict xs a ≡ Ok tt → xorAll (line xs a) ≡ 0
+  unfolding verdict
+  verdict-read ok = eqb-true _ _ (passed (eqb (xorAll (line xs a)) 0) _ ok)
 
   pub verdict-fails : (xorAll (line xs a) ≡ 0 → ⊥) → verdict xs a ≡ Err (refusal FailedCheck a)
   unfolding verdict

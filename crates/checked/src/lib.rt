@@ -1,4 +1,6 @@
 // Checked memory: it borrows 129 bytes for each line, 128 cells and then their exclusive or, the check byte.
+pub mod chip;
+
 ghost use mathlib.Core.Path.{_≡_};
 ghost use Prim.Native.Nat.{_+_, _/_, _^_, _<_, _≤_};
 ghost use denote.Ref.{now};

@@ -11,6 +11,7 @@ ghost use Rattle.prices.specs.declared.InputError.the-variants.{NoMemory};
 use std::alloc::AllocError;
 use std::alloc::Global;
 use std::alloc::Refused;
+use std::fmt;
 
 // The most prices in one list.
 pub const MOST: usize = 1024;
@@ -45,6 +46,18 @@ pub fn parse(heap: Global, text: &[u8]) -> Result<Vec<u32>, InputError>
         number += 1;
     }
     Ok(list)
+}
+
+pub impl fmt::Display for InputError as InputErrorDisplay {
+    fn fmt<W: fmt::Write>(&self, f: &mut fmt::Formatter<W>) -> fmt::Result {
+        match self {
+            InputError::NoPrices => write!(f, "line 1: there is no price at all"),
+            InputError::NotANumber(line) => write!(f, "line {line}: this is no decimal number"),
+            InputError::TooLarge(line) => write!(f, "line {line}: the price is 4294967296 or more"),
+            InputError::TooMany(line) => write!(f, "line {line}: there are more than 1024 prices"),
+            InputError::NoMemory => write!(f, "there is not enough memory for the list"),
+        }
+    }
 }
 
 pub impl From<AllocError> for InputError as InputErrorFromAlloc {
