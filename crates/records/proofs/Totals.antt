@@ -1,5 +1,6 @@
 -- Adding up a column reading by reading. Assumes nothing.
 use mathlib.Core.Path.{_≡_, refl, sym, ap, _∙_}
+use mathlib.Core.Bool.{cond}
 use mathlib.Core.List.{List, [], _∷_}
 use Prim.Native.Nat.{ℕ, _+_, _<_, _≤_}
 use native.Mathlib.Nat.{add-assoc}
@@ -7,9 +8,10 @@ use native.Mathlib.Omega.{arith}
 use lib.ListN.{length, getD, drop}
 use Rattle.std.specs.declared.result.Result.{Result}
 use Rattle.std.specs.declared.result.Result.the-variants.{Ok, Err}
+use Rattle.std.specs.Results.{isOk}
 use Rattle.std.proofs.shelf.Lists.{at-drop-more, at-drop-all}
 use Rattle.memory.specs.declared.fault.Fault.{Fault}
-use Rattle.records.specs.Column.{plus, totalled}
+use Rattle.records.specs.Column.{plus, totalled, readables}
 
 plus-plus : (s p : ℕ) (r : Result ℕ Fault) → plus (s + p) r ≡ plus s (plus p r)
 plus-plus s p (Ok x) = ap Ok (add-assoc s p x)
@@ -35,6 +37,14 @@ module _ (rs : List (Result ℕ Fault)) (i : ℕ) (r : Result ℕ Fault) (low : 
   total-refused s f e =
       let read : totalled (drop i rs) ≡ Err f = next ∙ ap (λ x. totalled (x ∷ drop (i + 1) rs)) e in
       ap (plus s) read
+
+  pub readables-more : readables (drop i rs) ≡ cond (isOk r) 1 0 + readables (drop (i + 1) rs)
+  unfolding readables
+  readables-more = at-drop-more readables rs i r low ∙ ap (λ x. readables (x ∷ drop (i + 1) rs)) (sym here)
+
+pub readables-all : (rs : List (Result ℕ Fault)) (i : ℕ) → length rs ≤ i → readables (drop i rs) ≡ 0
+unfolding readables
+readables-all rs i past = at-drop-all readables rs i past
 
 pub total-all : (rs : List (Result ℕ Fault)) (i s : ℕ) → length rs ≤ i → plus s (totalled (drop i rs)) ≡ Ok s
 unfolding totalled

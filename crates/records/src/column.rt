@@ -2,7 +2,7 @@
 ghost use mathlib.Core.Path.{_≡_};
 ghost use Rattle.std.specs.Of.Vec.{vec-items};
 ghost use Rattle.std.specs.Vec.{made};
-ghost use Rattle.records.specs.Column.{laying, laid, surveyed, totalled};
+ghost use Rattle.records.specs.Column.{laying, laid, surveyed, totalled, readables};
 use crate::price::read_price;
 use crate::price::record_of;
 use memory::contract::Memory;
@@ -59,4 +59,17 @@ pub fn total(readings: &[Reading]) -> Result<u128, Fault>
         }
     }
     Ok(sum)
+}
+
+// How many records brought a price.
+pub fn readable(readings: &[Reading]) -> usize
+    ensures { λ r. ⌜ r ≡ readables (now (readings .entry)) ⌝ }
+{
+    let mut count = 0;
+    for reading in readings {
+        if reading.is_ok() {
+            count += 1;
+        }
+    }
+    count
 }
