@@ -14,7 +14,6 @@ use Rattle.memory.specs.Run.{bounded}
 
 module _ (size a n : ℕ) where
   pub bounded-bad : (n ≡ 0) ⊎ (128 < a % 128 + n) → bounded size a n ≡ Err (refusal BadRun a)
-  unfolding bounded
   bounded-bad (inl none) = cond-true _ _ _ (or-left _ _ (eq-eqb n 0 none))
   bounded-bad (inr long) = cond-true _ _ _ (or-right _ _ (lt-ltb 128 (a % 128 + n) long))
 
@@ -22,11 +21,9 @@ module _ (size a n : ℕ) where
   in-line some fits = or-from _ _ (ne-eqb n 0 (λ e. omega arith)) (le-ltb 128 (a % 128 + n) fits)
 
   pub bounded-past : 0 < n → a % 128 + n ≤ 128 → size < a + n → bounded size a n ≡ Err (refusal PastEnd a)
-  unfolding bounded
   bounded-past some fits past = rw (in-line some fits, lt-ltb size (a + n) past)
 
   pub bounded-ok : 0 < n → a % 128 + n ≤ 128 → a + n ≤ size → bounded size a n ≡ Ok tt
-  unfolding bounded
   bounded-ok some fits inside = rw (in-line some fits, le-ltb size (a + n) inside)
 
 -- a run that is taken

@@ -8,7 +8,6 @@ ghost use Rattle.std.specs.Results.{Cases};
 ghost use Rattle.std.specs.declared.result.Result.the-variants.{Ok};
 ghost use Rattle.prices.specs.Prices.{capped, lines, price, lineRead, Told, prices};
 ghost use Rattle.prices.specs.declared.InputError.the-variants.{NoMemory};
-use std::alloc::AllocError;
 use std::alloc::Global;
 use std::alloc::Refused;
 use std::fmt;
@@ -60,19 +59,11 @@ pub impl fmt::Display for InputError as InputErrorDisplay {
     }
 }
 
-pub impl From<AllocError> for InputError as InputErrorFromAlloc {
-    ghost converts = { λ _ r. r ≡ NoMemory };
-
-    fn from(_error: AllocError) -> InputError {
-        InputError::NoMemory
-    }
-}
-
 pub impl<T: Drop> From<Refused<T>> for InputError as InputErrorFromRefused {
     ghost converts = { λ _ r. r ≡ NoMemory };
 
     fn from(_error: Refused<T>) -> InputError {
-        InputError::NoMemory
+        Self::NoMemory
     }
 }
 

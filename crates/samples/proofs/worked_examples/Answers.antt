@@ -1,10 +1,8 @@
 -- Assumes nothing.
-use Rattle.memory.specs.Run.{bounded}
 use Rattle.samples.proofs.RunExamples.{run-examples}
 use Rattle.samples.proofs.worked_examples.Needs as need
 
 pub returns : need.returns
-unfolding bounded
 returns c = record {
   computed = λ i. record {
     eight = c .check-run .ensures i;
