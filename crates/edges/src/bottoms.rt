@@ -1,8 +1,8 @@
 // Plain and checked memory over borrowed bytes of several lengths.
+use crate::suite::edges;
 use checked::Checked;
 use checked::CheckedMemory;
 use checked::chip::flip;
-use crate::suite::edges;
 use memory::contract::Memory;
 use memory::fault::Cause;
 use memory::fault::Fault;
@@ -77,9 +77,18 @@ fn spoilt_line_beside_a_good_one() -> Result<(), Fail> {
     flip(&mut bytes, 3, 7);
     let mut checked = Checked::new(&mut bytes);
     let mut two = [9; 2];
-    check_eq(checked.read(0, &mut two), Err(Fault::here(Cause::FailedCheck, 0)))?;
-    check_eq(checked.read(126, &mut two), Err(Fault::here(Cause::FailedCheck, 126)))?;
-    check_eq(checked.write(100, &[1]), Err(Fault::here(Cause::FailedCheck, 100)))?;
+    check_eq(
+        checked.read(0, &mut two),
+        Err(Fault::here(Cause::FailedCheck, 0)),
+    )?;
+    check_eq(
+        checked.read(126, &mut two),
+        Err(Fault::here(Cause::FailedCheck, 126)),
+    )?;
+    check_eq(
+        checked.write(100, &[1]),
+        Err(Fault::here(Cause::FailedCheck, 100)),
+    )?;
     check_eq(two, [9, 9])?;
     check_eq(checked.read(128, &mut two), Ok(()))?;
     check_eq(two, [0, 0])

@@ -1,7 +1,7 @@
 // Tests at the edges: one suite over any memory, and what belongs to one memory alone.
 #[cfg(test)]
-mod suite;
-#[cfg(test)]
 mod bottoms;
 #[cfg(test)]
 mod lists;
+#[cfg(test)]
+mod suite;

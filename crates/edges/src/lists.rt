@@ -22,7 +22,11 @@ fn bad_lists(rt: LibcRuntime) -> Result<(), Fail> {
     refused(heap, "12\n1 3\n", InputError::NotANumber(2))?;
     refused(heap, "12\n-3\n", InputError::NotANumber(2))?;
     refused(heap, "1\n2\n4294967296\n", InputError::TooLarge(3))?;
-    refused(heap, "99999999999999999999999999999999\n", InputError::TooLarge(1))?;
+    refused(
+        heap,
+        "99999999999999999999999999999999\n",
+        InputError::TooLarge(1),
+    )?;
     refused(heap, "9999999999999999999x\n", InputError::NotANumber(1))
 }
 
