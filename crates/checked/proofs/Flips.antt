@@ -79,7 +79,6 @@ module _ (xs : List ℕ) (at v : ℕ) (differs : v ≡ 0 → ⊥) (low : at < le
       cond-false _ _ _ (ne-eqb _ _ (λ e. differs (sym odd ∙ e)))
 
   pub caught : Caught xs spoilt at
-  unfolding guarding
   caught = record {
     size = ap (λ n. cells (n / 129)) (length-set xs at _);
     line = λ i below here ok. spoilt-line i here ok;
@@ -88,7 +87,6 @@ module _ (xs : List ℕ) (at v : ℕ) (differs : v ≡ 0 → ⊥) (low : at < le
 
 -- a place past the end
 pub caught-past : (xs : List ℕ) (at : ℕ) → length xs ≤ at → Caught xs xs at
-unfolding guarding
 caught-past xs at past = record {
   size = refl;
   line = λ i below here ok. absurd (omega arith);

@@ -16,10 +16,11 @@ use Rattle.memory.specs.declared.fault.Fault.{Fault}
 use Rattle.memory.specs.Fault.{refusal}
 use Rattle.memory.specs.Run.{bounded}
 use Rattle.memory.specs.Meaning.{byte, fault, cells}
-use Rattle.memory.specs.Calls.{plain, value, answer, bytes, delivered, written}
+use Rattle.memory.specs.Calls.{plain, value, sound, answer, bytes, delivered, written}
 use Rattle.memory.proofs.Overlays.{Inside, Outside}
 use Rattle.memory.proofs.Runs.{Taken, taken}
 use Rattle.memory.proofs.Calls.{answer-outside, answer-inside, sound-all, sound-first, bytes-are, delivered-accepted, written-accepted, is-stored}
+use Rattle.memory.proofs.Writes.{accepted-taken, accepted-each}
 use Rattle.checked.specs.Line.{xorAll, start, line, verdict}
 use Rattle.checked.specs.Checked.{guarded, guarding, renewed, updated, Coherent}
 use Rattle.checked.proofs.Xors.{xor-sealed}
@@ -55,15 +56,23 @@ module _ (xs : List ℕ) (a : ℕ) where
   unfolding verdict
   verdict-passes same = cond-true _ _ _ (eq-eqb _ _ same)
 
+  pub verdict-plain : verdict xs a ≡ plain (guarded xs a)
+  unfolding verdict
+  verdict-plain =
+      elim (eqb (xorAll (line xs a)) 0) as (λ b. judged b (refusal FailedCheck a) ≡ plain (cond b (byte (getD xs (start a + a % 128) 0)) (fault (refusal FailedCheck a)))) [
+        | true ↦ refl
+        | false ↦ refl
+      ]
+
   pub guarded-fault : (f : Fault) → verdict xs a ≡ Err f → guarded xs a ≡ fault f
   unfolding verdict
   guarded-fault f e =
       let p = failed (eqb (xorAll (line xs a)) 0) (refusal FailedCheck a) f e in
       rw (p .0) (ap fault (p .1))
 
+-- what the test of a run and the check of its line answer together
 module _ {size : ℕ} {xs : List ℕ} (c : Coherent size xs) (a n : ℕ) where
   pub refused : (f : Fault) → bounded size a n ≡ Err f → answer (guarding xs) a n ≡ Err f
-  unfolding guarding
   refused f e = answer-outside (guarding xs) a n f (rw (c .sized) at e)
 
   module _ (inside : bounded size a n ≡ Ok tt) where
@@ -73,76 +82,80 @@ module _ {size : ℕ} {xs : List ℕ} (c : Coherent size xs) (a n : ℕ) where
     pub whole : start a + 129 ≤ length xs
     whole = omega (arith, c .sized, run)
 
-    pub in-line : a % 128 + n ≤ 128
-    in-line = run .line
+    checked-run : answer (guarding xs) a n ≡ sound (guarded xs) a n
+    checked-run = answer-inside (guarding xs) a n (rw (c .sized) at inside)
 
-    pub refused-line : (f : Fault) → verdict xs a ≡ Err f → answer (guarding xs) a n ≡ Err f
-    unfolding guarding
-    refused-line f e =
-        answer-inside (guarding xs) a n (rw (c .sized) at inside) ∙ sound-first _ a n f (run .some) (guarded-fault xs a f e)
+    failing : (r : Result (Unit {0}) Fault) → verdict xs a ≡ r → answer (guarding xs) a n ≡ r
+    failing (Ok tt) ok = checked-run ∙ sound-all (guarded xs) a n (λ i low high. ap plain (guarded-byte xs a ok i (omega (arith, run))))
+    failing (Err f) e = checked-run ∙ sound-first (guarded xs) a n f (run .some) (guarded-fault xs a f e)
 
-    pub accepted : verdict xs a ≡ Ok tt → answer (guarding xs) a n ≡ Ok tt
-    unfolding guarding
-    accepted ok =
-        answer-inside (guarding xs) a n (rw (c .sized) at inside)
-        ∙ sound-all _ a n (λ i low high. ap plain (guarded-byte xs a ok i (omega (arith, run))))
+    pub admitted : verdict xs a ≡ answer (guarding xs) a n
+    admitted = sym (failing (verdict xs a) refl)
 
--- a read at a run that is taken, in a line that passes its check
-pub read-part : {size : ℕ} {xs : List ℕ} (c : Coherent size xs) (a : ℕ) (b : List ℕ) → bounded size a (length b) ≡ Ok tt → verdict xs a ≡ Ok tt → delivered (guarding xs) a b ≡ take (length b) (drop (start a + a % 128) xs)
-unfolding guarding
-read-part {size} {xs} c a b inside ok =
-    let here : start a + 129 ≤ length xs = whole c a (length b) inside in
-    let fits : a % 128 + length b ≤ 128 = in-line c a (length b) inside in
+-- a run that is admitted
+module _ (xs : List ℕ) (a n : ℕ) (ok : answer (guarding xs) a n ≡ Ok tt) where
+  taken-run : Taken (cells (length xs / 129)) a n
+  taken-run = accepted-taken (guarding xs) a n ok
+
+  pub whole-line : start a + 129 ≤ length xs
+  whole-line = omega (arith, taken-run)
+
+  pub in-line : a % 128 + n ≤ 128
+  in-line = taken-run .line
+
+  passes : verdict xs a ≡ Ok tt
+  passes = verdict-plain xs a ∙ accepted-each (guarding xs) a n ok a (omega arith, omega (arith, taken-run))
+
+  pub bytes-of-line : (i : ℕ) → i / 128 ≡ a / 128 → guarded xs i ≡ byte (getD xs (start i + i % 128) 0)
+  bytes-of-line = guarded-byte xs a passes
+
+pub read-part : (xs : List ℕ) (a : ℕ) (b : List ℕ) → answer (guarding xs) a (length b) ≡ Ok tt → take (length b) (drop (start a + a % 128) xs) ≡ delivered (guarding xs) a b
+read-part xs a b ok =
+    let here : start a + 129 ≤ length xs = whole-line xs a (length b) ok in
+    let fits : a % 128 + length b ≤ 128 = in-line xs a (length b) ok in
     let at : ℕ = start a + a % 128 in
     let long : length (take (length b) (drop at xs)) ≡ length b = simp (length-take, length-drop) (omega arith) in
-    delivered-accepted (guarding xs) a b (accepted c a (length b) inside ok)
+    sym (delivered-accepted (guarding xs) a b ok
     ∙ ap (bytes (guarded xs) a) (sym long)
     ∙ bytes-are (guarded xs) a (take (length b) (drop at xs))
     (λ k low.
-    ap value (guarded-byte xs a ok (a + k) (omega arith))
+    ap value (bytes-of-line xs a (length b) ok (a + k) (omega arith))
     ∙ ap (λ j. getD xs j 0) (omega arith)
-    ∙ sym (getD-take (length b) (drop at xs) k 0 (omega arith) ∙ getD-drop at xs k 0))
+    ∙ sym (getD-take (length b) (drop at xs) k 0 (omega arith) ∙ getD-drop at xs k 0)))
 
-pub keeps-bytes : (xs : List ℕ) (a : ℕ) (bs : List ℕ) (f : Fault) → answer (guarding xs) a (length bs) ≡ Err f → updated xs a bs ≡ xs
-unfolding updated
-keeps-bytes xs a bs f e = rw e
-
--- a write at such a run
-module _ {size : ℕ} {xs : List ℕ} (c : Coherent size xs) (a : ℕ) (bs : List ℕ) (inside : bounded size a (length bs) ≡ Ok tt) where
+-- a write that is admitted
+module _ (xs : List ℕ) (a : ℕ) (bs : List ℕ) (ok : answer (guarding xs) a (length bs) ≡ Ok tt) where
   here : start a + 129 ≤ length xs
-  here = whole c a (length bs) inside
+  here = whole-line xs a (length bs) ok
 
   fits : a % 128 + length bs ≤ 128
-  fits = in-line c a (length bs) inside
+  fits = in-line xs a (length bs) ok
 
-  pub write-coherent : ((i : ℕ) → getD bs i 0 < 256) → Coherent size (renewed xs a bs)
-  write-coherent low = record {
+  pub write-coherent : {size : ℕ} → Coherent size xs → ((i : ℕ) → getD bs i 0 < 256) → Coherent size (renewed xs a bs)
+  write-coherent c low = record {
     sized = c .sized ∙ ap (λ n. cells (n / 129)) (sym (length-renewed xs a bs here fits));
     low = renewed-low xs a bs here fits (c .low) low;
   }
 
-  module _ (ok : verdict xs a ≡ Ok tt) where
-    pub write-bytes : renewed xs a bs ≡ updated xs a bs
-    unfolding updated
-    write-bytes = rw (accepted c a (length bs) inside ok)
+  pub write-bytes : renewed xs a bs ≡ updated xs a bs
+  write-bytes = rw ok
 
-    -- after the write the line passes its check
-    sound-line : (i : ℕ) → i / 128 ≡ a / 128 → guarded (renewed xs a bs) i ≡ byte (getD (renewed xs a bs) (start i + i % 128) 0)
-    sound-line i same = rw (line-same xs a bs here fits i same, xor-sealed)
+  -- after the write the line passes its check
+  sound-line : (i : ℕ) → i / 128 ≡ a / 128 → guarded (renewed xs a bs) i ≡ byte (getD (renewed xs a bs) (start i + i % 128) 0)
+  sound-line i same = rw (line-same xs a bs here fits i same, xor-sealed)
 
-    other-line : (i : ℕ) → (i / 128 ≡ a / 128 → ⊥) → guarded (renewed xs a bs) i ≡ guarded xs i
-    other-line i other = rw (line-other xs a bs here fits i other, getD-other xs a bs here fits i (i % 128) other (omega arith))
+  other-line : (i : ℕ) → (i / 128 ≡ a / 128 → ⊥) → guarded (renewed xs a bs) i ≡ guarded xs i
+  other-line i other = rw (line-other xs a bs here fits i other, getD-other xs a bs here fits i (i % 128) other (omega arith))
 
-    pub write-meaning : guarding (renewed xs a bs) ≡ written (guarding xs) a bs
-    unfolding guarding
-    write-meaning =
-        is-stored (guarding xs) (guarding (renewed xs a bs)) a bs
-        (ap (λ n. cells (n / 129)) (length-renewed xs a bs here fits))
-        (λ i run.
-        let same : i / 128 ≡ a / 128 = omega (arith, fits) in
-        sound-line i same ∙ ap byte (getD-run xs a bs here fits i same run))
-        (λ i run. ⊎-elim
-        (λ same. sound-line i same ∙ ap byte (getD-beside xs a bs here fits i same run) ∙ sym (guarded-byte xs a ok i same))
-        (other-line i)
-        (cases-eq (i / 128) (a / 128)))
-        ∙ sym (written-accepted (guarding xs) a bs (accepted c a (length bs) inside ok))
+  pub write-meaning : guarding (renewed xs a bs) ≡ written (guarding xs) a bs
+  write-meaning =
+      is-stored (guarding xs) (guarding (renewed xs a bs)) a bs
+      (ap (λ n. cells (n / 129)) (length-renewed xs a bs here fits))
+      (λ i run.
+      let same : i / 128 ≡ a / 128 = omega (arith, fits) in
+      sound-line i same ∙ ap byte (getD-run xs a bs here fits i same run))
+      (λ i run. ⊎-elim
+      (λ same. sound-line i same ∙ ap byte (getD-beside xs a bs here fits i same run) ∙ sym (bytes-of-line xs a (length bs) ok i same))
+      (other-line i)
+      (cases-eq (i / 128) (a / 128)))
+      ∙ sym (written-accepted (guarding xs) a bs ok)

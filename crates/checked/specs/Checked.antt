@@ -22,14 +22,14 @@ use Rattle.checked.specs.Line.{xorAll, sealed, start, line}
 abbrev pub guarded : List ℕ → ℕ → Cell
 guarded bytes a = cond (eqb (xorAll (line bytes a)) 0) (byte (getD bytes (start a + a % 128) 0)) (fault (refusal FailedCheck a))
 
-unfoldable pub guarding : List ℕ → Meaning
+abbrev pub guarding : List ℕ → Meaning
 guarding bytes = record { size = cells (length bytes / 129); cell = guarded bytes }
 
 -- the line's cells with the run's bytes laid over them, and a new check byte
 abbrev pub renewed : List ℕ → ℕ → List ℕ → List ℕ
 renewed bytes a bs = overlaid bytes (start a) (sealed (overlaid (take 128 (line bytes a)) (a % 128) bs))
 
-unfoldable pub updated : List ℕ → ℕ → List ℕ → List ℕ
+abbrev pub updated : List ℕ → ℕ → List ℕ → List ℕ
 updated bytes a bs = cond (isOk (answer (guarding bytes) a (length bs))) (renewed bytes a bs) bytes
 
 pub record Coherent (size : ℕ) (bytes : List ℕ) : Type 0 where
@@ -37,7 +37,6 @@ pub record Coherent (size : ℕ) (bytes : List ℕ) : Type 0 where
   pub low : (i : ℕ) → getD bytes i 0 < 256
 
 pub well-formed : {size : ℕ} {bytes : List ℕ} → Coherent size bytes → WellFormed (guarding bytes)
-unfolding guarding
 well-formed {size} {bytes} c = record {
   lines = omega arith;
   most = omega arith;

@@ -4,9 +4,11 @@ pub mod chip;
 ghost use mathlib.Core.Path.{_≡_};
 ghost use Prim.Native.Nat.{_+_, _/_, _^_, _<_, _≤_};
 ghost use denote.Ref.{now};
-ghost use lib.ListN.{length, take, drop};
+ghost use lib.ListN.{length, take};
 ghost use Rattle.memory.specs.Bytes.{overlaid, Over};
 ghost use Rattle.memory.specs.Meaning.{cells};
+ghost use Rattle.std.specs.declared.result.Result.the-variants.{Ok};
+ghost use Rattle.memory.specs.Calls.{answer, delivered, written};
 ghost use Rattle.checked.specs.Line.{xorAll, sealed, start, verdict};
 ghost use Rattle.checked.specs.Checked.{Coherent, guarding, updated, well-formed};
 use memory::contract::Memory;
@@ -48,13 +50,37 @@ impl<'a> Checked<'a> {
         Ok(())
     }
 
-    // Through a shared reference, so that the checker sees that the bytes stay.
-    fn copy_out(&self, at: usize, buffer: &mut [u8])
-        requires { ⌜ at + length (now buffer) ≤ length (now (now self .bytes)) ⌝ }
-        ensures { λ _. ⌜ now (buffer .exit) ≡ take (length (now (buffer .entry))) (drop at (now (now (self .entry) .bytes))) ⌝ }
+    // The answer to a run: its cells are bytes if its line passes the check.
+    fn admit(&self, a: u64, n: usize) -> Result<(), Fault>
+        requires { ⌜ Coherent (now self .size) (now (now self .bytes)) ⌝ }
+        ensures { λ r. ⌜ r ≡ answer (guarding (now (now (self .entry) .bytes))) a n ⌝ }
     {
+        check_run(self.size, a, n)?;
+        self.check_line(a)
+    }
+
+    // Fills the buffer from a run that is admitted.
+    fn copy_out(&self, a: u64, buffer: &mut [u8])
+        requires coherent { ⌜ Coherent (now self .size) (now (now self .bytes)) ⌝ }
+        requires admitted { ⌜ answer (guarding (now (now self .bytes))) a (length (now buffer)) ≡ Ok tt ⌝ }
+        ensures { λ _. ⌜ now (buffer .exit) ≡ delivered (guarding (now (now (self .entry) .bytes))) a (now (buffer .entry)) ⌝ }
+    {
+        let at = line_start(a) + (a % LINE) as usize;
         let n = buffer.len();
         buffer.copy_from_slice(&self.bytes[at..at + n]);
+    }
+
+    // Puts the bytes into a run that is admitted.
+    fn copy_in(&mut self, a: u64, bytes: &[u8])
+        requires coherent { ⌜ Coherent (now self .size) (now (now self .bytes)) ⌝ }
+        requires admitted { ⌜ answer (guarding (now (now self .bytes))) a (length (now bytes)) ≡ Ok tt ⌝ }
+        ensures meaning { λ _. ⌜ guarding (now (now (self .exit) .bytes)) ≡ written (guarding (now (now (self .entry) .bytes))) a (now (bytes .entry)) ⌝ }
+        ensures coherent { λ _. ⌜ Coherent (now (self .exit) .size) (now (now (self .exit) .bytes)) ⌝ }
+        ensures bytes { λ _. ⌜ Over (now (self .exit) .bytes) (updated (now (now (self .entry) .bytes)) a (now (bytes .entry))) (now (self .entry) .bytes) ⌝ }
+    {
+        let from = line_start(a);
+        let offset = (a % LINE) as usize;
+        store(&mut self.bytes[from..from + STRIDE], offset, bytes);
     }
 }
 
@@ -110,21 +136,18 @@ pub impl Memory for Checked<'_> as CheckedMemory {
     }
 
     fn read(&mut self, a: u64, buffer: &mut [u8]) -> Result<(), Fault> {
-        check_run(self.size, a, buffer.len())?;
-        self.check_line(a)?;
-        self.copy_out(line_start(a) + (a % LINE) as usize, buffer);
-        Ok(())
+        let answer = self.admit(a, buffer.len());
+        if answer.is_ok() {
+            self.copy_out(a, buffer);
+        }
+        answer
     }
 
     fn write(&mut self, a: u64, bytes: &[u8]) -> Result<(), Fault> {
-        check_run(self.size, a, bytes.len())?;
-        self.check_line(a)?;
-        let from = line_start(a);
-        store(
-            &mut self.bytes[from..from + STRIDE],
-            (a % LINE) as usize,
-            bytes,
-        );
-        Ok(())
+        let answer = self.admit(a, bytes.len());
+        if answer.is_ok() {
+            self.copy_in(a, bytes);
+        }
+        answer
     }
 }

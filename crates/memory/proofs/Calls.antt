@@ -28,20 +28,20 @@ module _ (m : Meaning) (a : ℕ) where
   answer-inside n e = rw e
 
   pub delivered-refused : (b : List ℕ) (f : Fault) → answer m a (length b) ≡ Err f → delivered m a b ≡ b
-  unfolding delivered
   delivered-refused b f e = rw e
 
   pub delivered-accepted : (b : List ℕ) → answer m a (length b) ≡ Ok tt → delivered m a b ≡ bytes (m .cell) a (length b)
-  unfolding delivered
   delivered-accepted b e = rw e
 
   pub written-refused : (bs : List ℕ) (f : Fault) → answer m a (length bs) ≡ Err f → written m a bs ≡ m
-  unfolding written
   written-refused bs f e = rw e
 
   pub written-accepted : (bs : List ℕ) → answer m a (length bs) ≡ Ok tt → written m a bs ≡ stored m a bs
-  unfolding written
   written-accepted bs e = rw e
+
+and-ok : (r : Result (Unit {0}) Fault) → andOther r (Ok tt) ≡ r
+and-ok (Ok u) = refl
+and-ok (Err f) = refl
 
 -- no cell of the run is a fault
 pub sound-all : (cell : ℕ → Cell) (a n : ℕ) → ((i : ℕ) → a ≤ i → i < a + n → plain (cell i) ≡ Ok tt) → sound cell a n ≡ Ok tt
@@ -49,6 +49,11 @@ unfolding sound
 sound-all cell a zero all = refl
 sound-all cell a (suc n) all =
     rw (all a (omega arith) (omega arith)) (sound-all cell (suc a) n (λ i low high. all i (omega arith) (omega arith)))
+
+-- where no cell is a fault, the test of the run is the whole answer
+pub answer-faultless : (m : Meaning) (a n : ℕ) → ((i : ℕ) → plain (m .cell i) ≡ Ok tt) → answer m a n ≡ bounded (m .size) a n
+unfolding answer
+answer-faultless m a n all = ap (andOther (bounded (m .size) a n)) (sound-all (m .cell) a n (λ i low high. all i)) ∙ and-ok (bounded (m .size) a n)
 
 -- the first cell of the run is a fault
 pub sound-first : (cell : ℕ → Cell) (a n : ℕ) (f : Fault) → 0 < n → cell a ≡ fault f → sound cell a n ≡ Err f

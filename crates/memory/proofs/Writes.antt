@@ -93,3 +93,8 @@ stored-answer m a bs e b n =
 pub accepted-taken : (m : Meaning) (a n : ℕ) → answer m a n ≡ Ok tt → Taken (m .size) a n
 unfolding answer
 accepted-taken m a n e = taken (m .size) a n (both-ok (bounded (m .size) a n) (sound (m .cell) a n) e .0)
+
+-- every cell of an accepted run is a byte
+pub accepted-each : (m : Meaning) (a n : ℕ) → answer m a n ≡ Ok tt → (i : ℕ) → Inside a n i → plain (m .cell i) ≡ Ok tt
+unfolding answer
+accepted-each m a n e = sound-each (m .cell) a n (both-ok (bounded (m .size) a n) (sound (m .cell) a n) e .1)

@@ -13,10 +13,10 @@ use Rattle.memory.specs.Bytes.{overlaid}
 use Rattle.memory.specs.Meaning.{Meaning, byte, cells, WellFormed}
 use Rattle.memory.specs.Calls.{answer}
 
-unfoldable pub holding : List ℕ → Meaning
+abbrev pub holding : List ℕ → Meaning
 holding bytes = record { size = cells (length bytes / 128); cell = λ i. byte (getD bytes i 0) }
 
-unfoldable pub updated : List ℕ → ℕ → List ℕ → List ℕ
+abbrev pub updated : List ℕ → ℕ → List ℕ → List ℕ
 updated bytes a bs = cond (isOk (answer (holding bytes) a (length bs))) (overlaid bytes a bs) bytes
 
 pub record Coherent (size : ℕ) (bytes : List ℕ) : Type 0 where
@@ -24,7 +24,6 @@ pub record Coherent (size : ℕ) (bytes : List ℕ) : Type 0 where
   pub low : (i : ℕ) → getD bytes i 0 < 256
 
 pub well-formed : {size : ℕ} {bytes : List ℕ} → Coherent size bytes → WellFormed (holding bytes)
-unfolding holding
 well-formed {size} {bytes} c = record {
   lines = omega arith;
   most = omega arith;

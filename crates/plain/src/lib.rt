@@ -1,10 +1,12 @@
 // Plain memory: it borrows bytes, and they are its cells.
 ghost use mathlib.Core.Path.{_≡_};
-ghost use lib.ListN.{length, take, drop};
+ghost use lib.ListN.{length};
 ghost use denote.Ref.{now};
-ghost use Prim.Native.Nat.{_+_, _/_, _≤_};
+ghost use Prim.Native.Nat.{_/_};
 ghost use Rattle.memory.specs.Bytes.{Over};
 ghost use Rattle.memory.specs.Meaning.{cells};
+ghost use Rattle.std.specs.declared.result.Result.the-variants.{Ok};
+ghost use Rattle.memory.specs.Calls.{answer, delivered, written};
 ghost use Rattle.plain.specs.Plain.{Coherent, holding, updated, well-formed};
 use memory::contract::Memory;
 use memory::fault::Fault;
@@ -29,13 +31,36 @@ impl<'a> Plain<'a> {
         Plain { size, bytes }
     }
 
-    // Through a shared reference, so that the checker sees that the bytes stay.
-    fn copy_out(&self, at: usize, buffer: &mut [u8])
-        requires { ⌜ at + length (now buffer) ≤ length (now (now self .bytes)) ⌝ }
-        ensures { λ _. ⌜ now (buffer .exit) ≡ take (length (now (buffer .entry))) (drop at (now (now (self .entry) .bytes))) ⌝ }
+    // The answer to a run. No cell of a plain memory is a fault, so the test of the run is all of it.
+    fn admit(&self, a: u64, n: usize) -> Result<(), Fault>
+        requires { ⌜ Coherent (now self .size) (now (now self .bytes)) ⌝ }
+        ensures { λ r. ⌜ r ≡ answer (holding (now (now (self .entry) .bytes))) a n ⌝ }
     {
+        check_run(self.size, a, n)
+    }
+
+    // Fills the buffer from a run that is admitted.
+    fn copy_out(&self, a: u64, buffer: &mut [u8])
+        requires coherent { ⌜ Coherent (now self .size) (now (now self .bytes)) ⌝ }
+        requires admitted { ⌜ answer (holding (now (now self .bytes))) a (length (now buffer)) ≡ Ok tt ⌝ }
+        ensures { λ _. ⌜ now (buffer .exit) ≡ delivered (holding (now (now (self .entry) .bytes))) a (now (buffer .entry)) ⌝ }
+    {
+        let at = a as usize;
         let n = buffer.len();
         buffer.copy_from_slice(&self.bytes[at..at + n]);
+    }
+
+    // Puts the bytes into a run that is admitted.
+    fn copy_in(&mut self, a: u64, bytes: &[u8])
+        requires coherent { ⌜ Coherent (now self .size) (now (now self .bytes)) ⌝ }
+        requires admitted { ⌜ answer (holding (now (now self .bytes))) a (length (now bytes)) ≡ Ok tt ⌝ }
+        ensures meaning { λ _. ⌜ holding (now (now (self .exit) .bytes)) ≡ written (holding (now (now (self .entry) .bytes))) a (now (bytes .entry)) ⌝ }
+        ensures coherent { λ _. ⌜ Coherent (now (self .exit) .size) (now (now (self .exit) .bytes)) ⌝ }
+        ensures bytes { λ _. ⌜ Over (now (self .exit) .bytes) (updated (now (now (self .entry) .bytes)) a (now (bytes .entry))) (now (self .entry) .bytes) ⌝ }
+    {
+        let at = a as usize;
+        let n = bytes.len();
+        self.bytes[at..at + n].copy_from_slice(bytes);
     }
 }
 
@@ -63,16 +88,18 @@ pub impl Memory for Plain<'_> as PlainMemory {
     }
 
     fn read(&mut self, a: u64, buffer: &mut [u8]) -> Result<(), Fault> {
-        check_run(self.size, a, buffer.len())?;
-        self.copy_out(a as usize, buffer);
-        Ok(())
+        let answer = self.admit(a, buffer.len());
+        if answer.is_ok() {
+            self.copy_out(a, buffer);
+        }
+        answer
     }
 
     fn write(&mut self, a: u64, bytes: &[u8]) -> Result<(), Fault> {
-        let n = bytes.len();
-        check_run(self.size, a, n)?;
-        let at = a as usize;
-        self.bytes[at..at + n].copy_from_slice(bytes);
-        Ok(())
+        let answer = self.admit(a, bytes.len());
+        if answer.is_ok() {
+            self.copy_in(a, bytes);
+        }
+        answer
     }
 }
