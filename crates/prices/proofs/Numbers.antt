@@ -8,13 +8,9 @@ use lib.Dec.{leb}
 use lib.ListN.{length, getD, drop}
 use Rattle.std.specs.declared.option.Option.{Option}
 use Rattle.std.specs.declared.option.Option.the-variants.{None, Some}
-use Rattle.std.specs.declared.result.Result.{Result}
-use Rattle.std.specs.declared.result.Result.the-variants.{Ok, Err}
 use Rattle.std.proofs.shelf.Lists.{at-drop-more, at-drop-all}
-use Rattle.std.proofs.shelf.Tests.{cond-true, cond-false, and-from, and-left, and-right, le-leb, lt-leb, lt-ltb, le-ltb}
-use Rattle.prices.specs.declared.InputError.{InputError}
-use Rattle.prices.specs.declared.InputError.the-variants.{NotANumber, TooLarge, TooMany}
-use Rattle.prices.specs.Prices.{numeral, price, capped, judged, lineRead}
+use Rattle.std.proofs.shelf.Tests.{cond-true, cond-false, and-from, and-left, and-right, le-leb, lt-leb}
+use Rattle.prices.specs.Prices.{numeral, price, capped}
 
 -- what is held back does not matter to what is held
 pub capped-numeral : (n m : ℕ) (bs : List ℕ) → min n (2 ^ 32) ≡ min m (2 ^ 32) → capped (numeral n bs) ≡ capped (numeral m bs)
@@ -56,37 +52,3 @@ pub price-none : (line : List ℕ) → length line ≡ 0 → price line ≡ None
 unfolding price
 price-none [] none = refl
 price-none (b ∷ bs) none = absurd (omega arith)
-
--- a line by its number and by what it says, held at 2^32
-module _ (k : ℕ) where
-  judged-none : (p : Option ℕ) → None ≡ capped p → judged k p ≡ Err (NotANumber k)
-  judged-none None e = refl
-  judged-none (Some n) e = let z : _≡_ {A = ℕ} 0 1 = cc in absurd (omega arith)
-
-  judged-some : (p : Option ℕ) (v : ℕ) → Some v ≡ capped p → (n : ℕ) × (p ≡ Some n) × (v ≡ min n (2 ^ 32))
-  judged-some None v e = let z : _≡_ {A = ℕ} 0 1 = cc in absurd (omega arith)
-  judged-some (Some n) v e = (n, refl, cc)
-
-  module _ (line : List ℕ) where
-    pub read-many : 1024 < k → Err (TooMany k) ≡ lineRead k line
-    unfolding lineRead
-    read-many many = sym (cond-true _ _ _ (lt-ltb 1024 k many))
-
-    module _ (few : k ≤ 1024) where
-      judged-line : lineRead k line ≡ judged k (price line)
-      unfolding lineRead
-      judged-line = cond-false _ _ _ (le-ltb 1024 k few)
-
-      pub read-none : None ≡ capped (price line) → Err (NotANumber k) ≡ lineRead k line
-      read-none e = sym (judged-line ∙ judged-none (price line) e)
-
-      pub read-large : (v : ℕ) → Some v ≡ capped (price line) → 2 ^ 32 ≤ v → Err (TooLarge k) ≡ lineRead k line
-      read-large v e large =
-          let p = judged-some (price line) v e in
-          sym (judged-line ∙ ap (judged k) (p .1) ∙ cond-false _ _ _ (le-ltb (p .0) (2 ^ 32) (omega (arith, p .2))))
-
-      pub read-ok : (v : ℕ) → Some v ≡ capped (price line) → v < 2 ^ 32 → Ok v ≡ lineRead k line
-      read-ok v e small =
-          let p = judged-some (price line) v e in
-          let same : v ≡ p .0 = omega (arith, p .2) in
-          sym (judged-line ∙ ap (judged k) (p .1) ∙ cond-true _ _ _ (lt-ltb (p .0) (2 ^ 32) (omega (arith, p .2))) ∙ ap Ok (sym same))

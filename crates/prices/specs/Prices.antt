@@ -43,7 +43,7 @@ abbrev pub judged : ℕ → Option ℕ → Result ℕ InputError
 judged k None = Err (NotANumber k)
 judged k (Some n) = cond (ltb n (2 ^ 32)) (Ok n) (Err (TooLarge k))
 
-unfoldable pub lineRead : ℕ → List ℕ → Result ℕ InputError
+abbrev pub lineRead : ℕ → List ℕ → Result ℕ InputError
 lineRead k line = cond (ltb 1024 k) (Err (TooMany k)) (judged k (price line))
 
 abbrev pub with-price : Result ℕ InputError → Result (List ℕ) InputError → Result (List ℕ) InputError
