@@ -90,3 +90,19 @@ is-stored m n a bs size new old =
     (λ run. new i run ∙ sym (cond-true _ _ _ (is-within a (length bs) i run)))
     (λ run. old i run ∙ sym (cond-false _ _ _ (not-within a (length bs) i run)))
     (cases-run a (length bs) i))
+
+pub length-bytes : (cell : ℕ → Cell) (a n : ℕ) → length (bytes cell a n) ≡ n
+unfolding bytes
+length-bytes cell a zero = refl
+length-bytes cell a (suc n) = ap suc (length-bytes cell (suc a) n)
+
+pub getD-bytes : (cell : ℕ → Cell) (a n i : ℕ) → i < n → getD (bytes cell a n) i 0 ≡ value (cell (a + i))
+unfolding bytes
+getD-bytes cell a zero i low = absurd (omega arith)
+getD-bytes cell a (suc n) zero low = ap (λ k. value (cell k)) (omega arith)
+getD-bytes cell a (suc n) (suc i) low = getD-bytes cell (suc a) n i (omega arith) ∙ ap (λ k. value (cell k)) (omega arith)
+
+-- a cell that is no fault is the byte of its value
+pub plain-byte : (c : Cell) → plain c ≡ Ok tt → c ≡ byte (value c)
+plain-byte (byte b) e = refl
+plain-byte (fault f) e = let z : _≡_ {A = ℕ} 0 1 = cc in absurd (omega arith)

@@ -1,5 +1,6 @@
 // The worked examples of docs/: computed by the library, and proved from its definitions.
 ghost use mathlib.Core.Path.{_≡_};
+ghost use Rattle.samples.specs.Mappings.{MappingExamples};
 ghost use Rattle.samples.specs.Runs.{runAnswers, RunExamples};
 use memory::fault::Fault;
 use memory::run::check_run;
@@ -17,10 +18,11 @@ pub struct RunAnswers {
     pub one: Result<(), Fault>,
 }
 
-// The worked examples, computed; and that they hold of every memory.
+// The worked examples of runs, computed; that they hold of every memory; and the worked examples of mappings.
 pub fn worked_examples() -> RunAnswers
     ensures computed { λ r. ⌜ r ≡ runAnswers ⌝ }
     ensures runs { λ _. ⌜ RunExamples ⌝ }
+    ensures mappings { λ _. ⌜ MappingExamples ⌝ }
 {
     RunAnswers {
         eight: check_run(1024, 120, 8),

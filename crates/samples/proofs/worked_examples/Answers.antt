@@ -1,4 +1,5 @@
 -- Assumes nothing.
+use Rattle.samples.proofs.MappingExamples.{mapping-examples}
 use Rattle.samples.proofs.RunExamples.{run-examples}
 use Rattle.samples.proofs.worked_examples.Needs as need
 
@@ -11,4 +12,5 @@ returns c = record {
     one = c .check-run-4 .ensures i;
   };
   runs = run-examples;
+  mappings = mapping-examples;
 }

@@ -1,0 +1,2 @@
+// The page colour mapping.
+pub mod colour;

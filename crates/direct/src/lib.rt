@@ -1,0 +1,2 @@
+// The direct mapping.
+pub mod direct;
