@@ -25,8 +25,12 @@ fn depth_stops_at_255() -> Result<(), Fail> {
 fn free_causes_begin_at_7() -> Result<(), Fail> {
     check_eq(CustomCause::new(0), None)?;
     check_eq(CustomCause::new(6), None)?;
-    let first = CustomCause::new(7).ok_or("7 is free")?;
-    let last = CustomCause::new(255).ok_or("255 is free")?;
+    let Some(first) = CustomCause::new(7) else {
+        return Err(Fail::new("7 is free"));
+    };
+    let Some(last) = CustomCause::new(255) else {
+        return Err(Fail::new("255 is free"));
+    };
     check_eq(Cause::Custom(first).number(), 7)?;
     check_eq(Cause::Custom(last).number(), 255)
 }
