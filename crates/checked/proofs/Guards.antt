@@ -41,23 +41,18 @@ failed false f g e = (refl, cc)
 module _ (xs : List ℕ) (a : ℕ) where
   -- all the cells of a line that passes its check are bytes
   pub guarded-byte : verdict xs a ≡ Ok tt → (i : ℕ) → i / 128 ≡ a / 128 → guarded xs i ≡ byte (getD xs (start i + i % 128) 0)
-  unfolding verdict line
   guarded-byte ok i here = rw (ap (λ k. take 129 (drop (k * 129) xs)) here, passed (eqb (xorAll (line xs a)) 0) _ ok)
 
   pub verdict-read : verdict xs a ≡ Ok tt → xorAll (line xs a) ≡ 0
-  unfolding verdict
   verdict-read ok = eqb-true _ _ (passed (eqb (xorAll (line xs a)) 0) _ ok)
 
   pub verdict-fails : (xorAll (line xs a) ≡ 0 → ⊥) → verdict xs a ≡ Err (refusal FailedCheck a)
-  unfolding verdict
   verdict-fails differs = cond-false _ _ _ (ne-eqb _ _ differs)
 
   pub verdict-passes : xorAll (line xs a) ≡ 0 → verdict xs a ≡ Ok tt
-  unfolding verdict
   verdict-passes same = cond-true _ _ _ (eq-eqb _ _ same)
 
   pub verdict-plain : verdict xs a ≡ plain (guarded xs a)
-  unfolding verdict
   verdict-plain =
       elim (eqb (xorAll (line xs a)) 0) as (λ b. judged b (refusal FailedCheck a) ≡ plain (cond b (byte (getD xs (start a + a % 128) 0)) (fault (refusal FailedCheck a)))) [
         | true ↦ refl
@@ -65,7 +60,6 @@ module _ (xs : List ℕ) (a : ℕ) where
       ]
 
   pub guarded-fault : (f : Fault) → verdict xs a ≡ Err f → guarded xs a ≡ fault f
-  unfolding verdict
   guarded-fault f e =
       let p = failed (eqb (xorAll (line xs a)) 0) (refusal FailedCheck a) f e in
       rw (p .0) (ap fault (p .1))

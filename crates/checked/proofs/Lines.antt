@@ -16,20 +16,16 @@ use Rattle.checked.proofs.Xors.{xor-low}
 
 module _ (xs : List ℕ) (a : ℕ) where
   pub length-line : start a + 129 ≤ length xs → length (line xs a) ≡ 129
-  unfolding line
   length-line whole = simp (length-take, length-drop) (omega arith)
 
   pub getD-line : (k d : ℕ) → k < 129 → getD (line xs a) k d ≡ getD xs (start a + k) d
-  unfolding line
   getD-line k d low = getD-take 129 (drop (start a) xs) k d low ∙ getD-drop (start a) xs k d
 
   pub line-long : length (line xs a) ≡ min 129 (length xs - start a)
-  unfolding line
   line-long = simp (length-take, length-drop)
 
 -- what the checker says of the part of the bytes that is a line
 pub line-part : (xs : List ℕ) (a from : ℕ) → from ≡ start a → take (from + 129 - from) (drop from xs) ≡ line xs a
-unfolding line
 line-part xs a from e =
     let long : from + 129 - from ≡ 129 = omega arith in
     ap (λ n. take n (drop from xs)) long ∙ ap (λ k. take 129 (drop k xs)) e
@@ -43,7 +39,6 @@ take-low n xs low i =
     (cases-lt i n)
 
 line-low : (xs : List ℕ) (a : ℕ) → ((i : ℕ) → getD xs i 0 < 256) → (i : ℕ) → getD (line xs a) i 0 < 256
-unfolding line
 line-low xs a low = take-low 129 (drop (start a) xs) (λ i. rw (getD-drop (start a) xs i 0) (low (start a + i)))
 
 pub length-sealed : (cells : List ℕ) → length (sealed cells) ≡ length cells + 1
