@@ -1,5 +1,8 @@
 // Plain and checked memory over borrowed bytes of several lengths.
 use crate::suite::edges;
+ghost use mathlib.Core.Path.{_≡_};
+ghost use mathlib.Core.List.{[], _∷_};
+ghost use Rattle.plain.specs.Plain.{updated};
 use checked::Checked;
 use checked::CheckedMemory;
 use checked::chip::flip;
@@ -43,15 +46,20 @@ fn no_line() -> Result<(), Fail> {
     check_eq(one, [5])
 }
 
+// One byte into borrowed bytes. Their owner knows each of them afterwards, from the contract of the memory alone.
+fn poke(bytes: &mut [u8]) -> Result<(), Fault>
+    ensures { λ _. ⌜ now (bytes .exit) ≡ updated (now (bytes .entry)) 127 (1 ∷ []) ⌝ }
+{
+    let mut plain = Plain::new(bytes);
+    plain.write(127, &[1])
+}
+
 // The bytes after the last whole line stay, whatever is written before them.
 #[test]
 fn part_line_stays() -> Result<(), Fail> {
     let mut bytes = [0xee; 200];
-    let put = {
-        let mut plain = Plain::new(&mut bytes);
-        plain.write(0, &[1; 128])
-    };
-    check_eq(put, Ok(()))?;
+    check_eq(poke(&mut bytes), Ok(()))?;
+    check_eq(bytes[126], 0xee)?;
     check_eq(bytes[127], 1)?;
     check_eq(bytes[128], 0xee)?;
     check_eq(bytes[199], 0xee)
