@@ -10,14 +10,13 @@ use lib.ListN.{length, getD, take, drop}
 use Rattle.std.specs.declared.result.Result.{Result}
 use Rattle.std.specs.declared.result.Result.the-variants.{Ok, Err}
 use Rattle.std.proofs.shelf.Lists.{length-take, length-drop, getD-take, getD-drop}
-use Rattle.std.proofs.shelf.Tests.{cases-eq, cond-true, cond-false, eq-eqb, ne-eqb, eqb-true}
+use Rattle.std.proofs.shelf.Tests.{cases-eq, eqb-true}
 use Rattle.memory.specs.declared.fault.Cause.the-variants.{FailedCheck}
 use Rattle.memory.specs.declared.fault.Fault.{Fault}
 use Rattle.memory.specs.Fault.{refusal}
 use Rattle.memory.specs.Run.{bounded}
 use Rattle.memory.specs.Meaning.{byte, fault, cells}
 use Rattle.memory.specs.Calls.{plain, value, sound, answer, bytes, delivered, written}
-use Rattle.memory.proofs.Overlays.{Inside, Outside}
 use Rattle.memory.proofs.Runs.{Taken, taken}
 use Rattle.memory.proofs.Calls.{answer-outside, answer-inside, sound-all, sound-first, bytes-are, delivered-accepted, written-accepted, is-stored}
 use Rattle.memory.proofs.Writes.{accepted-taken, accepted-each}
@@ -45,12 +44,6 @@ module _ (xs : List ℕ) (a : ℕ) where
 
   pub verdict-read : verdict xs a ≡ Ok tt → xorAll (line xs a) ≡ 0
   verdict-read ok = eqb-true _ _ (passed (eqb (xorAll (line xs a)) 0) _ ok)
-
-  pub verdict-fails : (xorAll (line xs a) ≡ 0 → ⊥) → verdict xs a ≡ Err (refusal FailedCheck a)
-  verdict-fails differs = cond-false _ _ _ (ne-eqb _ _ differs)
-
-  pub verdict-passes : xorAll (line xs a) ≡ 0 → verdict xs a ≡ Ok tt
-  verdict-passes same = cond-true _ _ _ (eq-eqb _ _ same)
 
   pub verdict-plain : verdict xs a ≡ plain (guarded xs a)
   verdict-plain =

@@ -1,9 +1,8 @@
 -- Gathering a line piece by piece. Assumes nothing.
 use mathlib.Core.Path.{_≡_, refl, sym, ap, _∙_}
-use mathlib.Core.List.{List, [], _∷_, _++_}
+use mathlib.Core.List.{List, _++_}
 use Prim.Native.Nat.{ℕ, suc, _+_, _-_, _*_, _<_, _≤_}
 use native.Mathlib.Omega.{arith}
-use lib.ListN.{length}
 use Rattle.std.specs.declared.result.Result.{Result}
 use Rattle.std.specs.declared.result.Result.the-variants.{Ok, Err}
 use Rattle.std.proofs.shelf.Lists.{append-nil, append-assoc}
@@ -15,10 +14,6 @@ use Rattle.dense.specs.Dense.{piece, before, pieces}
 before-before : (xs p : List ℕ) (rest : Result (List ℕ) Fault) → before (Ok (xs ++ p)) rest ≡ before (Ok xs) (before (Ok p) rest)
 before-before xs p (Ok ys) = ap Ok (append-assoc xs p ys)
 before-before xs p (Err f) = refl
-
-pub before-none : (r : Result (List ℕ) Fault) → before (Ok []) r ≡ r
-before-none (Ok ys) = refl
-before-none (Err f) = refl
 
 -- the piece k of 32, after those that make xs
 module _ (l : Layout) (m : Meaning) (xs : List ℕ) (k : ℕ) where

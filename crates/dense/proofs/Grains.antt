@@ -1,9 +1,9 @@
 -- What stands in a gathered line, by the laws of a mapping. Assumes nothing.
 use mathlib.Core.Path.{_≡_, refl, sym, ap, subst, _∙_}
 use mathlib.Core.Bool.{true}
-use mathlib.Core.List.{List, [], _∷_, _++_}
+use mathlib.Core.List.{List, [], _++_}
 use mathlib.Core.Logic.{⊎-elim}
-use Prim.Native.Nat.{ℕ, zero, suc, _+_, _-_, _*_, _/_, _%_, _^_, _<_, _≤_}
+use Prim.Native.Nat.{ℕ, zero, suc, _+_, _-_, _*_, _/_, _%_, _<_, _≤_}
 use native.Mathlib.Nat.{zero-add, div-add-mod', mod-lt}
 use native.Mathlib.Omega.{arith}
 use lib.ListN.{length, getD}
@@ -25,7 +25,7 @@ use Rattle.mapping.specs.Rules.{Layout, power}
 use Rattle.mapping.specs.Laws.{Lawful}
 use Rattle.mapping.proofs.Powers.{power-divides, power-pow}
 use Rattle.mapping.proofs.Multiples.{times-multiple, skip-multiple, multiple-room}
-use Rattle.dense.specs.Dense.{fetched, fetchedAt, piece, before, pieces, gathered, Dense}
+use Rattle.dense.specs.Dense.{fetchedAt, piece, before, pieces, gathered, Dense}
 
 moved : (p : Option ℕ) (o i v : ℕ) → options.mapped (λ w. w + o) p ≡ Some v → options.mapped (λ w. w + (o + i)) p ≡ Some (v + i)
 moved None o i v e = let z : _≡_ {A = ℕ} 0 1 = cc in absurd (omega arith)

@@ -1,10 +1,8 @@
 -- The lines of a text, and the prices on them, one after the other. Assumes nothing.
 use mathlib.Core.Path.{_≡_, refl, sym, ap, _∙_}
-use mathlib.Core.Bool.{cond}
 use mathlib.Core.List.{List, [], _∷_, _++_}
 use mathlib.Core.Logic.{_⊎_, inl, inr, ⊎-elim}
 use Prim.Native.Nat.{ℕ, zero, suc, _+_, _-_, _<_, _≤_}
-use native.Mathlib.Numerals.{add-one}
 use native.Mathlib.Omega.{arith}
 use lib.Dec.{eqb}
 use lib.ListN.{length, getD, take, drop}
@@ -92,6 +90,3 @@ told (NotANumber k) p is = is
 told (TooLarge k) p is = is
 told (TooMany k) p is = is
 told NoMemory p is = tt
-
-pub told-memory : (e : InputError) (p : Result (List ℕ) InputError) → e ≡ NoMemory → Told e p
-told-memory e p is = rw is tt

@@ -6,7 +6,7 @@
 -- prices text: all prices, in order, or what is wrong on the first bad line
 -- Told e p: p is the refusal e, unless e says that memory was wanting
 use mathlib.Core.Path.{_≡_}
-use mathlib.Core.Bool.{Bool, cond, _&&_}
+use mathlib.Core.Bool.{cond, _&&_}
 use mathlib.Core.List.{List, [], _∷_}
 use Prim.Native.Nat.{ℕ, _+_, _-_, _*_, _^_, min}
 use lib.Dec.{eqb, leb, ltb}

@@ -1,5 +1,5 @@
 -- Assumes nothing.
-use mathlib.Core.Path.{_≡_, sym, ap, subst, _∙_}
+use mathlib.Core.Path.{_≡_, sym, ap, _∙_}
 use mathlib.Core.List.{List, _++_}
 use Prim.Native.Nat.{ℕ, _+_, _-_, _*_}
 use native.Mathlib.Omega.{arith}
@@ -11,7 +11,7 @@ use Rattle.std.proofs.shelf.Parts.{take-putMid}
 use Rattle.std.proofs.shelf.Results.{err-from-errBy}
 use Rattle.memory.proofs.Overlays.{length-overlaid, overlaid-part}
 use Rattle.dense.specs.Dense.{piece, before, pieces, gathered}
-use Rattle.dense.proofs.Gathers.{before-none, piece-more, piece-refused, pieces-all}
+use Rattle.dense.proofs.Gathers.{piece-more, piece-refused, pieces-all}
 use Rattle.dense.proofs.Grains.{length-piece, dense}
 use Rattle.dense.proofs.gather.Needs as need
 

@@ -1,6 +1,5 @@
 use mathlib.Core.Path.{_≡_}
 use Prim.Native.Nat.{_*_, _^_, _≤_}
-use lib.ListN.{length}
 use Rattle.dense.specs.Dense.{totalOf}
 use Rattle.dense.proofs.line_total.Given as given
 

@@ -1,16 +1,14 @@
 -- Assumes nothing.
-use mathlib.Core.Path.{_≡_, sym, ap, subst, _∙_}
-use mathlib.Core.List.{[], _∷_}
-use Prim.Native.Nat.{_+_, _<_}
+use mathlib.Core.Path.{sym, ap, _∙_}
+use Prim.Native.Nat.{_+_}
 use native.Mathlib.Omega.{arith}
 use lib.ListN.{length, drop}
-use Rattle.std.specs.declared.result.Result.the-variants.{Ok, Err}
+use Rattle.std.specs.declared.result.Result.the-variants.{Err}
 use Rattle.std.specs.Of.Vec.{vec-items}
-use Rattle.std.proofs.shelf.Parts.{pushed}
 use Rattle.std.proofs.shelf.Results.{err-from-errBy}
 use Rattle.std.proofs.shelf.Tests.{eqb-true, eqb-false}
 use Rattle.prices.specs.Prices.{lines, pricesFrom, prices}
-use Rattle.prices.proofs.Texts.{before, before-none, prices-some, prices-none, line-more, line-bad, lines-all, told, told-memory}
+use Rattle.prices.proofs.Texts.{before, before-none, prices-some, prices-none, line-more, line-bad, lines-all, told}
 use Rattle.prices.proofs.parse.Needs as need
 
 pub returns-then-is-empty : need.returns-then-is-empty

@@ -1,10 +1,5 @@
 use mathlib.Core.Path.{_≡_}
-use Prim.Native.Nat.{ℕ, _+_, _-_, _*_, _≤_}
-use lib.ListN.{length, take, drop}
-use Rattle.std.specs.Joined.{joined}
-use Rattle.memory.specs.Calls.{answer, stored}
-use Rattle.records.specs.Record.{recordOf}
-use Rattle.records.specs.Column.{laying, fitting}
+use Prim.Native.Nat.{_-_, _*_}
 use Rattle.records.proofs.Columns.{Laying}
 use Rattle.records.proofs.column.lay_down.Given as given
 
