@@ -2,10 +2,9 @@
 -- guarding bytes: the meaning of a checked memory over these bytes
 -- updated bytes a bs: what the borrowed bytes are after a write of bs at a
 -- Coherent size bytes: what holds of a checked memory's fields
-use mathlib.Core.Path.{_≡_}
 use mathlib.Core.Bool.{cond}
 use mathlib.Core.List.{List}
-use Prim.Native.Nat.{ℕ, _+_, _/_, _%_, _<_}
+use Prim.Native.Nat.{ℕ, _+_, _/_, _%_}
 use native.Mathlib.Omega.{arith}
 use lib.Dec.{eqb}
 use lib.ListN.{length, getD, take}
@@ -13,7 +12,7 @@ use Rattle.std.specs.Results.{isOk}
 use Rattle.std.proofs.shelf.Tests.{cond-both}
 use Rattle.memory.specs.declared.fault.Cause.the-variants.{FailedCheck}
 use Rattle.memory.specs.Fault.{refusal}
-use Rattle.memory.specs.Bytes.{overlaid}
+use Rattle.memory.specs.Bytes.{overlaid, Borrowed}
 use Rattle.memory.specs.Meaning.{Cell, byte, fault, Meaning, cells, Sound, WellFormed}
 use Rattle.memory.specs.Calls.{answer}
 use Rattle.checked.specs.Line.{xorAll, sealed, start, line}
@@ -32,9 +31,8 @@ renewed bytes a bs = overlaid bytes (start a) (sealed (overlaid (take 128 (line 
 abbrev pub updated : List ℕ → ℕ → List ℕ → List ℕ
 updated bytes a bs = cond (isOk (answer (guarding bytes) a (length bs))) (renewed bytes a bs) bytes
 
-pub record Coherent (size : ℕ) (bytes : List ℕ) : Type 0 where
-  pub sized : size ≡ cells (length bytes / 129)
-  pub low : (i : ℕ) → getD bytes i 0 < 256
+abbrev pub Coherent : ℕ → List ℕ → Type 0
+Coherent size bytes = Borrowed 129 size bytes
 
 pub well-formed : {size : ℕ} {bytes : List ℕ} → Coherent size bytes → WellFormed (guarding bytes)
 well-formed {size} {bytes} c = record {
