@@ -1,20 +1,28 @@
 #!/usr/bin/env python3
-"""Brings the names of definitions and lemmas to the spelling of today's Rattle: words in snake case.
+"""Brings the names of this repository's definitions and lemmas to the spelling of today's Rattle: words in snake case.
 
 usage: python3 tools/respell.py    at the top of the repository, once, after port.py of the kit
 
-In .antt files each name with a hyphen or a hump inside is written with underscores; in .rt files those of them that a
-clause or a ghost member names. Functions, types, modules, strings and prose keep their words. Names that would fall
-together are listed, and then nothing is written.
+A name that an .antt file of the repository defines, and that has a hyphen or a hump inside, is written with underscores
+wherever it stands: in .antt files, and in the clauses and ghost members of .rt files. What the library or the checker
+names keeps its spelling, and so do functions, types, modules, strings and prose. Where two names would fall together,
+they are listed and nothing is written.
 """
 
 import os
 import re
 import sys
 
-HYPHEN = re.compile(r"(?<![\w'.◌-])[A-Za-z][\w']*(?:-[\w']+)+(?![\w'-])")
-HUMP = re.compile(r"(?<![\w'.-])[a-z][a-z0-9]*(?:[A-Z][a-z0-9]*)+(?![\w'-])")
-FIELD = re.compile(r"(?<=\.)[a-z][\w']*(?:-[\w']+)+|(?<=\.)[a-z][a-z0-9]*(?:[A-Z][a-z0-9]*)+")
+NAME = r"[A-Za-z][\w']*(?:-[\w']+)*"
+DEFINED = re.compile(rf"^(\s*)(?:(?:pub|abbrev|unfoldable)\s+)*({NAME})\s*:\s+(.*)")
+LOCAL = re.compile(rf"\blet ({NAME})\s*[:=]")
+GHOST = re.compile(rf"^\s*ghost ({NAME}):")
+TOKEN = re.compile(rf"(?<![\w'◌-])(\.?)({NAME})(?![\w'-])")
+HUMP = re.compile(r"[a-z][a-z0-9]*(?:[A-Z][a-z0-9]*)+$")
+
+
+def wanted(name):
+    return name[0].islower() and ("-" in name or HUMP.match(name) is not None)
 
 
 def snake(name):
@@ -30,67 +38,75 @@ def files(ending):
                 yield os.path.join(folder, name)
 
 
+def read(path):
+    with open(path, encoding="utf-8") as f:
+        return f.read()
+
+
 def split(line, mark):
     """The code of a line, and its comment."""
     at = line.find(mark)
     return (line, "") if at < 0 else (line[:at], line[at:])
 
 
-def code(text, found):
+def definitions():
+    """Names that stand for themselves, and names of fields."""
+    names, fields = set(), set()
+    for path in files(".antt"):
+        within = False
+        for line in read(path).split("\n"):
+            text, _ = split(line, "--")
+            if text and not text[0].isspace():
+                within = re.match(r"(pub )?record ", text) is not None
+            m = DEFINED.match(text)
+            if m and not m.group(3).startswith("goal.") and wanted(m.group(2)):
+                (fields if within and m.group(1) else names).add(m.group(2))
+            names |= {n for n in LOCAL.findall(text) if wanted(n)}
+    for path in files(".rt"):
+        names |= {m.group(1) for line in read(path).split("\n") if (m := GHOST.match(line)) and wanted(m.group(1))}
+    return names, fields
+
+
+def code(text, names, fields):
     def turn(m):
-        found.setdefault(snake(m.group(0)), set()).add(m.group(0))
-        return snake(m.group(0))
+        known = fields if m.group(1) else names | fields
+        return m.group(1) + (snake(m.group(2)) if m.group(2) in known else m.group(2))
 
-    for pattern in (HYPHEN, HUMP):
-        text = pattern.sub(turn, text)
-    # behind a point stands a field, or a goal that Rattle names: no definition of its own
-    return FIELD.sub(lambda m: snake(m.group(0)), text)
+    return TOKEN.sub(turn, text)
 
 
-def comment(text, words):
+def comment(text, names):
     """Of a comment only the name that it explains, and names with a hump."""
-    text = HUMP.sub(lambda m: snake(m.group(0)) if m.group(0) in words else m.group(0), text)
-    m = re.match(r"(-- )([a-z][\w']*(?:-[\w']+)+)(?=[^.]*: )", text)
-    if m and m.group(2) in words:
-        text = m.group(1) + snake(m.group(2)) + text[m.end():]
-    return text
+    m = re.match(rf"(-- )({NAME})(?=[^.]*: )", text)
+    head = ""
+    if m and m.group(2) in names:
+        head, text = m.group(1) + snake(m.group(2)), text[m.end():]
+    return head + TOKEN.sub(lambda m: m.group(1) + (snake(m.group(2)) if m.group(2) in names and HUMP.match(m.group(2)) else m.group(2)), text)
 
 
 def main():
-    found, new = {}, {}
-    for path in files(".antt"):
-        with open(path, encoding="utf-8") as f:
-            lines = [split(line, "--") for line in f.read().split("\n")]
-        new[path] = [(code(c, found), rest) for c, rest in lines]
-    words = {old for olds in found.values() for old in olds}
-    for name in ("readState", "writeState"):
-        words.add(name)
-        found.setdefault(snake(name), set()).add(name)
-    bad = {k: v for k, v in found.items() if len(v) > 1}
-    for path in new:
-        new[path] = "\n".join(c + comment(rest, words) for c, rest in new[path])
-    for path in files(".rt"):
-        out = []
-        with open(path, encoding="utf-8") as f:
-            text = f.read()
-        for line in text.split("\n"):
-            c, rest = split(line, "//")
-            if '"' not in c:
-                for pattern in (HYPHEN, HUMP, FIELD):
-                    c = pattern.sub(lambda m: snake(m.group(0)) if m.group(0) in words else m.group(0), c)
-            out.append(c + comment(rest, words))
-        new[path] = "\n".join(out)
+    names, fields = definitions()
+    both = {}
+    for name in names | fields:
+        both.setdefault(snake(name), set()).add(name)
+    bad = {k: v for k, v in both.items() if len(v) > 1}
+    for k, v in sorted(bad.items()):
+        print("falls together:", k, sorted(v))
     if bad:
-        for k, v in sorted(bad.items()):
-            print("falls together:", k, sorted(v))
         return 1
-    for path, text in new.items():
-        with open(path, encoding="utf-8") as f:
-            if f.read() == text:
-                continue
-        with open(path, "w", encoding="utf-8") as f:
-            f.write(text)
-    for k, v in sorted(found.items()):
+    for mark, ending in (("--", ".antt"), ("//", ".rt")):
+        for path in files(ending):
+            old = read(path)
+            out = []
+            for line in old.split("\n"):
+                text, rest = split(line, mark)
+                if '"' not in text:
+                    text = code(text, names, fields)
+                out.append(text + comment(rest, names))
+            if "\n".join(out) != old:
+                with open(path, "w", encoding="utf-8") as f:
+                    f.write("\n".join(out))
+    for k, v in sorted(both.items()):
         print(sorted(v)[0], "->", k)
     return 0
 

@@ -1,9 +1,9 @@
 -- The page colour mapping keeps the laws. Assumes nothing.
 use Rattle.std.specs.Prelude.{◌≡◌, ℕ, ◌+◌, ◌-◌, ◌*◌, ◌/◌, ◌%◌, ◌<◌, ◌≤◌, true, cond, ◌&&◌, ltb, List, Some, None, nat_le, nat_lt, refl}
-use Rattle.std.proofs.Common.{sym, ap, ◌∙◌, ⊎_elim, add_mul, arith, lit≤}
-use Rattle.std.proofs.Math.Nat.{mul_mod_left, mod_mod_of_dvd, mod_eq_zero_of_dvd, dvd_of_mod_eq_zero, dvd_sub}
-use Rattle.std.proofs.lemmas.Nat.{div_mul_add, mod_mul_add, mod_below, mul_le, div_add_mod'}
-use Rattle.std.proofs.lemmas.Bool.{and_parts, and_from, and_left, and_right, leb_true, eqb_true, ltb_true, le_leb, lt_leb, lt_ltb, le_ltb, cond_true, cond_false, cases_lt, cases_Bool}
+use Rattle.std.proofs.Common.{sym, ap, ◌∙◌, ⊎_elim, add-mul, arith, lit≤}
+use Rattle.std.proofs.Math.Nat.{mul-mod_left, mod-mod_of_dvd, mod-eq-zero_of_dvd, dvd_of_mod-eq-zero, dvd-sub}
+use Rattle.std.proofs.lemmas.Nat.{div-mul-add, mod-mul-add, mod_below, mul-le, div-add-mod'}
+use Rattle.std.proofs.lemmas.Bool.{and_parts, and_from, and_left, and_right, leb-true, eqb-true, ltb-true, le-leb, lt-leb, lt-ltb, le-ltb, cond-true, cond-false, cases_lt, cases_Bool}
 use Rattle.std.specs.Option.{option_map}
 use Rattle.mapping.specs.Rules.{image, divides, power}
 use Rattle.mapping.proofs.Laws.{Armed, Addressed}
@@ -32,14 +32,14 @@ met I W C F passed =
     let d = and_parts (power W && nat_le 4096 W && power C) (nat_le 4096 C) c.0 in
     let e = and_parts (power W && nat_le 4096 W) (power C) d.0 in
     let f = and_parts (power W) (nat_le 4096 W) e.0 in
-    let large = leb_true 4096 W f.1 in
+    let large = leb-true 4096 W f.1 in
     record {
       some = omega arith;
       way = lines W f.0 large;
-      size = lines C e.1 (leb_true 4096 C d.1);
-      offset = multiple_trans 128 4096 F refl (eqb_true (F % 4096) 0 c.1);
-      room = leb_true (F + C) W b.1;
-      whole = eqb_true (I % W) 0 a.1;
+      size = lines C e.1 (leb-true 4096 C d.1);
+      offset = multiple_trans 128 4096 F refl (eqb-true (F % 4096) 0 c.1);
+      room = leb-true (F + C) W b.1;
+      whole = eqb-true (I % W) 0 a.1;
     }
 
 -- an address inside the colour, and what its place is
@@ -54,12 +54,12 @@ shown W C F s v found =
     ⊎_elim
     (λ inside.
     let both = and_parts (nat_le F (s % W)) (nat_lt (s % W) (F + C)) inside in
-    let here = cond_true test (Some (s / W * C + s % W - F)) None inside in
+    let here = cond-true test (Some (s / W * C + s % W - F)) None inside in
     let same : s / W * C + s % W - F ≡ v = cc in
-    let after = leb_true F (s % W) both.0 in
-    record { after = after; before = ltb_true (s % W) (F + C) both.1; place = omega arith })
+    let after = leb-true F (s % W) both.0 in
+    record { after = after; before = ltb-true (s % W) (F + C) both.1; place = omega arith })
     (λ outside.
-    let here = cond_false test (Some (s / W * C + s % W - F)) None outside in
+    let here = cond-false test (Some (s / W * C + s % W - F)) None outside in
     let z : ◌≡◌ {A = ℕ} 0 1 = cc in absurd (omega arith))
     (cases_Bool test)
 
@@ -68,8 +68,8 @@ module _ (I W C F : ℕ) (m : Met I W C F) where
   within s v below found =
       let h = shown W C F s v found in
       let count = quotient_below s I W m.some m.whole below in
-      let ways = mul_le (s / W + 1) C (I / W) C (omega arith) (omega arith) in
-      omega (arith, add_mul (s / W) 1 C)
+      let ways = mul-le (s / W + 1) C (I / W) C (omega arith) (omega arith) in
+      omega (arith, add-mul (s / W) 1 C)
 
   apart : (s t v : ℕ) → address W C F s ≡ Some v → address W C F t ≡ Some v → s ≡ t
   apart s t v one two =
@@ -81,11 +81,11 @@ module _ (I W C F : ℕ) (m : Met I W C F) where
   -- the bytes of a line stand in one way
   split : (x i : ℕ) → x % 128 ≡ 0 → i < 128 → ((x + i) / W ≡ x / W) × ((x + i) % W ≡ x % W + i)
   split x i whole small =
-      let inner : x % W % 128 ≡ 0 = mod_mod_of_dvd 128 x (dvd_of_mod_eq_zero 128 m.way) ∙ whole in
+      let inner : x % W % 128 ≡ 0 = mod-mod_of_dvd 128 x (dvd_of_mod-eq-zero 128 m.way) ∙ whole in
       let room = multiple_room (x % W) W 128 inner m.way (mod_below x W m.some) in
       let rest : x % W + i < W = omega arith in
-      let same : x + i ≡ x / W * W + (x % W + i) = omega (arith, div_add_mod' x W) in
-      (ap (λ n. n / W) same ∙ div_mul_add (x / W) W (x % W + i) rest, ap (λ n. n % W) same ∙ mod_mul_add (x / W) W (x % W + i) rest)
+      let same : x + i ≡ x / W * W + (x % W + i) = omega (arith, div-add-mod' x W) in
+      (ap (λ n. n / W) same ∙ div-mul-add (x / W) W (x % W + i) rest, ap (λ n. n % W) same ∙ mod-mul-add (x / W) W (x % W + i) rest)
 
   -- a line stands inside the colour or outside, since the colour is whole lines
   edges : (r i : ℕ) → r % 128 ≡ 0 → i < 128 → (nat_le F (r + i) && nat_lt (r + i) (F + C)) ≡ (nat_le F r && nat_lt r (F + C))
@@ -95,42 +95,42 @@ module _ (I W C F : ℕ) (m : Met I W C F) where
       (λ early.
       let room = multiple_room r F 128 whole m.offset early in
       let still : r + i < F = omega arith in
-      and_left (nat_le F (r + i)) (nat_lt (r + i) (F + C)) (lt_leb F (r + i) still) ∙ sym (and_left (nat_le F r) (nat_lt r (F + C)) (lt_leb F r early)))
+      and_left (nat_le F (r + i)) (nat_lt (r + i) (F + C)) (lt-leb F (r + i) still) ∙ sym (and_left (nat_le F r) (nat_lt r (F + C)) (lt-leb F r early)))
       (λ late.
       let also : F ≤ r + i = omega arith in
       ⊎_elim
       (λ inside.
       let room = multiple_room r (F + C) 128 whole end inside in
       let still : r + i < F + C = omega arith in
-      and_from (nat_le F (r + i)) (nat_lt (r + i) (F + C)) (le_leb F (r + i) also) (lt_ltb (r + i) (F + C) still)
-      ∙ sym (and_from (nat_le F r) (nat_lt r (F + C)) (le_leb F r late) (lt_ltb r (F + C) inside)))
+      and_from (nat_le F (r + i)) (nat_lt (r + i) (F + C)) (le-leb F (r + i) also) (lt-ltb (r + i) (F + C) still)
+      ∙ sym (and_from (nat_le F r) (nat_lt r (F + C)) (le-leb F r late) (lt-ltb r (F + C) inside)))
       (λ past.
       let still : F + C ≤ r + i = omega arith in
-      and_right (nat_le F (r + i)) (nat_lt (r + i) (F + C)) (le_ltb (r + i) (F + C) still)
-      ∙ sym (and_right (nat_le F r) (nat_lt r (F + C)) (le_ltb r (F + C) past)))
+      and_right (nat_le F (r + i)) (nat_lt (r + i) (F + C)) (le-ltb (r + i) (F + C) still)
+      ∙ sym (and_right (nat_le F r) (nat_lt r (F + C)) (le-ltb r (F + C) past)))
       (cases_lt r (F + C)))
       (cases_lt r F)
 
   -- the start of a line is a whole number of lines into its way
   even : (k : ℕ) → k * 128 % W % 128 ≡ 0
-  even k = mod_mod_of_dvd 128 (k * 128) (dvd_of_mod_eq_zero 128 m.way) ∙ mul_mod_left k 128
+  even k = mod-mod_of_dvd 128 (k * 128) (dvd_of_mod-eq-zero 128 m.way) ∙ mul-mod_left k 128
 
   follows : (k i : ℕ) → i < 128 → address W C F (k * 128 + i) ≡ option_map (λ v. v + i) (address W C F (k * 128))
   follows k i small =
       let q = k * 128 / W in
       let r = k * 128 % W in
       let test = nat_le F r && ltb r (F + C) in
-      let parts = split (k * 128) i (mul_mod_left k 128) small in
+      let parts = split (k * 128) i (mul-mod_left k 128) small in
       let moved : address W C F (k * 128 + i) ≡ cond test (Some (q * C + (r + i) - F)) None = rw (parts.0, parts.1, edges r i (even k) small) refl in
       ⊎_elim
       (λ inside.
-      let after = leb_true F r (and_parts (nat_le F r) (nat_lt r (F + C)) inside).0 in
+      let after = leb-true F r (and_parts (nat_le F r) (nat_lt r (F + C)) inside).0 in
       let sum : q * C + (r + i) - F ≡ q * C + r - F + i = omega arith in
-      moved ∙ cond_true test (Some (q * C + (r + i) - F)) None inside ∙ ap Some sum
-      ∙ sym (ap (option_map (λ v. v + i)) (cond_true test (Some (q * C + r - F)) None inside)))
+      moved ∙ cond-true test (Some (q * C + (r + i) - F)) None inside ∙ ap Some sum
+      ∙ sym (ap (option_map (λ v. v + i)) (cond-true test (Some (q * C + r - F)) None inside)))
       (λ outside.
-      moved ∙ cond_false test (Some (q * C + (r + i) - F)) None outside
-      ∙ sym (ap (option_map (λ v. v + i)) (cond_false test (Some (q * C + r - F)) None outside)))
+      moved ∙ cond-false test (Some (q * C + (r + i) - F)) None outside
+      ∙ sym (ap (option_map (λ v. v + i)) (cond-false test (Some (q * C + r - F)) None outside)))
       (cases_Bool test)
 
   line : (k v : ℕ) → address W C F (k * 128) ≡ Some v → v % 128 + 128 ≤ 128
@@ -138,7 +138,7 @@ module _ (I W C F : ℕ) (m : Met I W C F) where
       let h = shown W C F (k * 128) v found in
       let q = k * 128 / W in
       let r = k * 128 % W in
-      let inner : (r - F) % 128 ≡ 0 = mod_eq_zero_of_dvd 128 (dvd_sub 128 (dvd_of_mod_eq_zero 128 (even k)) (dvd_of_mod_eq_zero 128 m.offset)) in
+      let inner : (r - F) % 128 ≡ 0 = mod-eq-zero_of_dvd 128 (dvd-sub 128 (dvd_of_mod-eq-zero 128 (even k)) (dvd_of_mod-eq-zero 128 m.offset)) in
       let whole : v % 128 ≡ 0 = sym (ap (λ n. n % 128) h.place) ∙ skip_multiple (q * C) (r - F) 128 (times_multiple q C 128 m.size) ∙ inner in
       omega arith
 

@@ -1,6 +1,6 @@
 -- Gathering a line piece by piece. Assumes nothing.
 use Rattle.std.proofs.Common.{◌≡◌, ℕ, suc, ◌+◌, ◌-◌, ◌*◌, ◌<◌, ◌≤◌, List, ◌++◌, Ok, Err, Result, sym, refl, ap, ◌∙◌, arith}
-use Rattle.std.proofs.lemmas.List.{append_nil, append_assoc}
+use Rattle.std.proofs.lemmas.List.{append-nil, append_assoc}
 use Rattle.memory.specs.declared.fault.Fault.{Fault}
 use Rattle.memory.specs.Meaning.{Meaning}
 use Rattle.mapping.specs.Rules.{Layout}
@@ -30,4 +30,4 @@ module _ (l : Layout) (m : Meaning) (xs : List ℕ) (k : ℕ) where
   unfolding pieces
   pieces_all past =
       let none : 32 - k ≡ 0 = omega arith in
-      ap (λ n. before (Ok xs) (pieces l m k n)) none ∙ ap Ok (append_nil xs)
+      ap (λ n. before (Ok xs) (pieces l m k n)) none ∙ ap Ok (append-nil xs)

@@ -1,8 +1,8 @@
 -- What stands in a gathered line, by the laws of a mapping. Assumes nothing.
-use Rattle.std.proofs.Common.{◌≡◌, ℕ, zero, suc, ◌+◌, ◌-◌, ◌*◌, ◌/◌, ◌%◌, ◌<◌, ◌≤◌, true, List, [], ◌++◌, length, get_or, Some, None, Ok, Err, Option, Result, sym, refl, ap, ◌∙◌, subst, ⊎_elim, mod_lt, div_add_mod', zero_add, arith}
+use Rattle.std.proofs.Common.{◌≡◌, ℕ, zero, suc, ◌+◌, ◌-◌, ◌*◌, ◌/◌, ◌%◌, ◌<◌, ◌≤◌, true, List, [], ◌++◌, length, get_or, Some, None, Ok, Err, Option, Result, sym, refl, ap, ◌∙◌, subst, ⊎_elim, mod-lt, div-add-mod', zero-add, arith}
 use Rattle.std.specs.Option as options
 use Rattle.std.specs.Result as results
-use Rattle.std.proofs.lemmas.List.{length_append, get_or_append_left, get_or_append_right}
+use Rattle.std.proofs.lemmas.List.{length-append, get_or_append_left, get_or-append_right}
 use Rattle.std.proofs.lemmas.Bool.{cases_lt}
 use Rattle.memory.specs.declared.fault.Fault.{Fault}
 use Rattle.memory.specs.Fault.{raised}
@@ -30,8 +30,8 @@ module _ (l : Layout) (laws : Lawful l) where
       let g : ℕ = l.grain in
       let q : ℕ = k * 4 / g in
       let o : ℕ = k * 4 % g in
-      let split : q * g + o ≡ k * 4 = div_add_mod' (k * 4) g in
-      let inside : o < g = mod_lt (k * 4) (omega (arith, laws.least)) in
+      let split : q * g + o ≡ k * 4 = div-add-mod' (k * 4) g in
+      let inside : o < g = mod-lt (k * 4) (omega (arith, laws.least)) in
       let fours : o % 4 ≡ 0 = sym (skip_multiple (q * g) o 4 (times_multiple q g 4 grain_fours)) ∙ ap (λ n. n % 4) split ∙ omega arith in
       let room : o + 4 ≤ g = multiple_room o g 4 fours grain_fours inside in
       let first : options.option_map (λ w. w + o) (l.place (q * g)) ≡ Some v =
@@ -82,7 +82,7 @@ module _ (l : Layout) (laws : Lawful l) (m : Meaning) where
       let head = in_piece k b.0 b.2 in
       let tail = in_pieces (k + 1) n b.1 b.3 in
       let whole : line ≡ b.0 ++ b.1 = b.4 in (
-        ap length whole ∙ length_append b.0 b.1 ∙ omega (arith, head.0, tail.0),
+        ap length whole ∙ length-append b.0 b.1 ∙ omega (arith, head.0, tail.0),
         λ i low. ⊎_elim
             (λ near.
             let h = head.1 i near in
@@ -90,7 +90,7 @@ module _ (l : Layout) (laws : Lawful l) (m : Meaning) where
             (λ far.
             let t = tail.1 (i - 4) (omega arith) in
             let at : k * 4 + i ≡ (k + 1) * 4 + (i - 4) = omega arith in
-            (t.0, ap l.place at ∙ t.1, t.2 ∙ ap byte (sym (ap (λ xs. get_or xs i 0) whole ∙ get_or_append_right b.0 b.1 4 i 0 head.0 far))))
+            (t.0, ap l.place at ∙ t.1, t.2 ∙ ap byte (sym (ap (λ xs. get_or xs i 0) whole ∙ get_or-append_right b.0 b.1 4 i 0 head.0 far))))
             (cases_lt i 4),
       )
 
@@ -100,5 +100,5 @@ module _ (l : Layout) (laws : Lawful l) (m : Meaning) where
       let all = in_pieces 0 32 line e in
       record {
         long = all.0;
-        bytes = λ i low. let h = all.1 i low in (h.0, ap l.place (sym (zero_add i)) ∙ h.1, h.2);
+        bytes = λ i low. let h = all.1 i low in (h.0, ap l.place (sym (zero-add i)) ∙ h.1, h.2);
       }

@@ -1,6 +1,6 @@
 -- The direct mapping keeps the laws. Assumes nothing.
 use Rattle.std.specs.Prelude.{◌≡◌, ℕ, ◌*◌, ◌≤◌, List, refl}
-use Rattle.std.proofs.Math.Nat.{mul_mod_left}
+use Rattle.std.proofs.Math.Nat.{mul-mod_left}
 use Rattle.std.proofs.Common.{arith, lit≤}
 use Rattle.mapping.proofs.Laws.{Addressed}
 use Rattle.mapping.proofs.Powers.{power_pow}
@@ -14,5 +14,5 @@ addressed rs = record {
   within = λ s v inside found. let same : s ≡ v = cc in omega arith;
   apart = λ s t v _ _ first second. cc;
   follows = λ k i small. refl;
-  line = λ k v found. let same : k * 128 ≡ v = cc in omega (arith, mul_mod_left k 128);
+  line = λ k v found. let same : k * 128 ≡ v = cc in omega (arith, mul-mod_left k 128);
 }

@@ -1,7 +1,7 @@
 -- What a mapping still has to show of the registers that arm, and how its laws follow. Assumes nothing.
 use Rattle.std.proofs.Common.{◌≡◌, ℕ, ◌+◌, ◌*◌, ◌%◌, ◌^◌, ◌<◌, ◌≤◌, Bool, true, false, cond, not, ◌||◌, eqb, ltb, List, is_some, Some, None, sym, refl, ◌∙◌, ⊎_elim, arith}
-use native.Mathlib.Nat.{mul_mod_left}
-use Rattle.std.proofs.lemmas.Bool.{false≢true, or_parts, eqb_true, eqb_false, ltb_true, ltb_false, lt_ltb, le_ltb, not_false, cond_true, cond_false, cases_lt, cases_Bool}
+use native.Mathlib.Nat.{mul-mod_left}
+use Rattle.std.proofs.lemmas.Bool.{false≢true, or_parts, eqb-true, eqb-false, ltb-true, ltb-false, lt-ltb, le-ltb, not-false, cond-true, cond-false, cases_lt, cases_Bool}
 use Rattle.std.specs.Option.{option_map}
 use Rattle.mapping.specs.declared.refusal.ArmingRefusal.TheVariants.{BadImage, BadCondition, TooFar}
 use Rattle.mapping.specs.Rules.{Rules, image, table, placed, layout, power, divides}
@@ -27,9 +27,9 @@ pub armed : (rules : Rules) (rs : List ℕ) → arms rules rs ≡ true → Armed
 armed rules rs passed =
     let tests = no_refusal (eqb (image rs) 0 || not (divides 128 (image rs))) (rules.condition rs) (ltb (2 ^ 34) (rules.extent rs)) passed in
     let good = or_parts (eqb (image rs) 0) (not (divides 128 (image rs))) tests.0 in
-    let whole = eqb_true (image rs % 128) 0 (not_false (divides 128 (image rs)) good.1) in
-    let some : image rs ≡ 0 → ⊥ = eqb_false (image rs) 0 good.0 in
-    record { some = omega arith; lines = whole; met = tests.1; far = ltb_false (2 ^ 34) (rules.extent rs) tests.2 }
+    let whole = eqb-true (image rs % 128) 0 (not-false (divides 128 (image rs)) good.1) in
+    let some : image rs ≡ 0 → ⊥ = eqb-false (image rs) 0 good.0 in
+    record { some = omega arith; lines = whole; met = tests.1; far = ltb-false (2 ^ 34) (rules.extent rs) tests.2 }
 
 -- what the rules of a mapping show of registers that arm, of addresses inside the image
 pub record Addressed (rules : Rules) (rs : List ℕ) : Type 0 where
@@ -45,8 +45,8 @@ module _ (rules : Rules) (rs : List ℕ) where
   placed_some : (s v : ℕ) → placed rules rs s ≡ Some v → (s < image rs) × (rules.address rs s ≡ Some v)
   placed_some s v found =
       ⊎_elim
-      (λ inside. (ltb_true s (image rs) inside, sym (cond_true (ltb s (image rs)) _ _ inside) ∙ found))
-      (λ outside. let z : ◌≡◌ {A = ℕ} 0 1 = cc (cond_false (ltb s (image rs)) (rules.address rs s) None outside) in absurd (omega arith))
+      (λ inside. (ltb-true s (image rs) inside, sym (cond-true (ltb s (image rs)) _ _ inside) ∙ found))
+      (λ outside. let z : ◌≡◌ {A = ℕ} 0 1 = cc (cond-false (ltb s (image rs)) (rules.address rs s) None outside) in absurd (omega arith))
       (cases_Bool (ltb s (image rs)))
 
   grain_whole : Armed rules rs → Addressed rules rs → image rs % rules.grain rs ≡ 0
@@ -58,12 +58,12 @@ module _ (rules : Rules) (rs : List ℕ) where
       let g = rules.grain rs in
       ⊎_elim
       (λ inside.
-      let room = multiple_room (k * g) (image rs) g (mul_mod_left k g) (grain_whole a d) inside in
+      let room = multiple_room (k * g) (image rs) g (mul-mod_left k g) (grain_whole a d) inside in
       let all : k * g + i < image rs = omega arith in
-      rw (lt_ltb (k * g) (image rs) inside, lt_ltb (k * g + i) (image rs) all) (d.follows k i small))
+      rw (lt-ltb (k * g) (image rs) inside, lt-ltb (k * g + i) (image rs) all) (d.follows k i small))
       (λ outside.
       let none : image rs ≤ k * g + i = omega arith in
-      rw (le_ltb (k * g) (image rs) outside, le_ltb (k * g + i) (image rs) none) refl)
+      rw (le-ltb (k * g) (image rs) outside, le-ltb (k * g + i) (image rs) none) refl)
       (cases_lt (k * g) (image rs))
 
   -- The laws of an armed mapping, from what its rules show.

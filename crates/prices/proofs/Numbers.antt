@@ -1,7 +1,7 @@
 -- Numbers digit by digit, held at 2^32. Assumes nothing.
 use Rattle.std.proofs.Common.{◌≡◌, ℕ, ◌+◌, ◌-◌, ◌*◌, ◌^◌, ◌<◌, ◌≤◌, min, true, false, cond, ◌&&◌, leb, List, [], ◌∷◌, length, get_or, drop, Some, None, sym, refl, ap, ◌∙◌, arith}
 use Rattle.std.proofs.lemmas.List.{at_drop_more, at_drop_all}
-use Rattle.std.proofs.lemmas.Bool.{cond_true, cond_false, and_from, and_left, and_right, le_leb, lt_leb}
+use Rattle.std.proofs.lemmas.Bool.{cond-true, cond-false, and_from, and_left, and_right, le-leb, lt-leb}
 use Rattle.prices.specs.Prices.{numeral, price, capped}
 
 -- what is held back does not matter to what is held
@@ -23,13 +23,13 @@ module _ (line : List ℕ) (i n : ℕ) (low : i < length line) where
   pub numeral_more : 48 ≤ get_or line i 0 → get_or line i 0 ≤ 57 → capped (numeral (min (n * 10 + (get_or line i 0 - 48)) (2 ^ 32)) (drop (i + 1) line)) ≡ capped (numeral n (drop i line))
   numeral_more above below =
       capped_numeral (min (n * 10 + (get_or line i 0 - 48)) (2 ^ 32)) (n * 10 + (get_or line i 0 - 48)) (drop (i + 1) line) (omega arith)
-      ∙ ap capped (sym (numeral_step ∙ cond_true _ _ _ (and_from _ _ (le_leb 48 (get_or line i 0) above) (le_leb (get_or line i 0) 57 below))))
+      ∙ ap capped (sym (numeral_step ∙ cond-true _ _ _ (and_from _ _ (le-leb 48 (get_or line i 0) above) (le-leb (get_or line i 0) 57 below))))
 
   pub numeral_low : get_or line i 0 < 48 → numeral n (drop i line) ≡ None
-  numeral_low below = numeral_step ∙ cond_false _ _ _ (and_left _ _ (lt_leb 48 (get_or line i 0) below))
+  numeral_low below = numeral_step ∙ cond-false _ _ _ (and_left _ _ (lt-leb 48 (get_or line i 0) below))
 
   pub numeral_high : 57 < get_or line i 0 → numeral n (drop i line) ≡ None
-  numeral_high above = numeral_step ∙ cond_false _ _ _ (and_right _ _ (lt_leb (get_or line i 0) 57 above))
+  numeral_high above = numeral_step ∙ cond-false _ _ _ (and_right _ _ (lt-leb (get_or line i 0) 57 above))
 
 pub numeral_all : (line : List ℕ) (i n : ℕ) → length line ≤ i → numeral n (drop i line) ≡ Some n
 unfolding numeral

@@ -1,7 +1,7 @@
 -- The lines of a text, and the prices on them, one after the other. Assumes nothing.
 use Rattle.std.proofs.Common.{◌≡◌, ℕ, zero, suc, ◌+◌, ◌-◌, ◌<◌, ◌≤◌, eqb, ◌⊎◌, List, [], ◌∷◌, ◌++◌, length, get_or, take, drop, Ok, Err, Result, sym, refl, ap, ◌∙◌, inl, inr, ⊎_elim, arith}
-use Rattle.std.proofs.lemmas.List.{append_nil, append_assoc, drop_all, drop_drop, get_or_drop, length_drop}
-use Rattle.std.proofs.lemmas.Bool.{cond_true, cond_false, eq_eqb, ne_eqb}
+use Rattle.std.proofs.lemmas.List.{append-nil, append_assoc, drop_all, drop-drop, get_or-drop, length-drop}
+use Rattle.std.proofs.lemmas.Bool.{cond-true, cond-false, eq-eqb, ne_eqb}
 use Rattle.prices.specs.declared.InputError.{InputError}
 use Rattle.prices.specs.declared.InputError.TheVariants.{NoPrices, NotANumber, TooLarge, TooMany, NoMemory}
 use Rattle.prices.specs.Prices.{begun, lines, line_read, with_price, prices_from, prices, Told}
@@ -14,12 +14,12 @@ first_of : (xs : List ℕ) (n : ℕ) → ((k : ℕ) → k < n → get_or xs k 0 
 unfolding lines Ends
 first_of [] n none end some = absurd (omega arith)
 first_of (b ∷ bs) zero none (inl e) some = absurd (omega arith)
-first_of (b ∷ bs) zero none (inr e) some = cond_true (eqb b 10) _ _ (eq_eqb b 10 e.1)
+first_of (b ∷ bs) zero none (inr e) some = cond-true (eqb b 10) _ _ (eq-eqb b 10 e.1)
 first_of (b ∷ []) (suc n) none end some =
     let here : n ≡ 0 = ⊎_elim (λ e. omega arith) (λ e. omega arith) end in
-    rw here (cond_false (eqb b 10) _ _ (ne_eqb b 10 (none 0 (omega arith))))
+    rw here (cond-false (eqb b 10) _ _ (ne_eqb b 10 (none 0 (omega arith))))
 first_of (b ∷ c ∷ bs) (suc n) none end some =
-    cond_false (eqb b 10) _ _ (ne_eqb b 10 (none 0 (omega arith)))
+    cond-false (eqb b 10) _ _ (ne_eqb b 10 (none 0 (omega arith)))
     ∙ ap (begun b) (first_of (c ∷ bs) n (λ k low. none (suc k) (omega arith)) (⊎_elim (λ e. inl (omega arith)) (λ e. inr (omega arith, e.1)) end) (omega arith))
 
 -- the line that begins at from, up to r
@@ -27,14 +27,14 @@ pub first_line : (text : List ℕ) (from r : ℕ) → from < length text → fro
 unfolding Ends
 first_line text from r low after none end =
     let n : ℕ = r - from in
-    let long : length (drop from text) ≡ length text - from = length_drop from text in
-    let at : (k : ℕ) → get_or (drop from text) k 0 ≡ get_or text (from + k) 0 = λ k. get_or_drop from text k 0 in
+    let long : length (drop from text) ≡ length text - from = length-drop from text in
+    let at : (k : ℕ) → get_or (drop from text) k 0 ≡ get_or text (from + k) 0 = λ k. get_or-drop from text k 0 in
     let last : from + n ≡ r = omega arith in
     first_of (drop from text) n
     (λ k below e. none (from + k) (omega arith) (omega arith) (sym (at k) ∙ e))
     (⊎_elim (λ e. inl (omega arith)) (λ e. inr (omega arith, at n ∙ ap (λ k. get_or text k 0) last ∙ e.1)) end)
     (omega arith)
-    ∙ ap (λ rest. take n (drop from text) ∷ lines rest) (drop_drop (suc n) from text ∙ ap (λ k. drop k text) (omega arith))
+    ∙ ap (λ rest. take n (drop from text) ∷ lines rest) (drop-drop (suc n) from text ∙ ap (λ k. drop k text) (omega arith))
 
 -- the prices so far, before those of the rest
 abbrev pub before : List ℕ → Result (List ℕ) InputError → Result (List ℕ) InputError
@@ -74,7 +74,7 @@ module _ (ns : List ℕ) (k : ℕ) {ls : List (List ℕ)} {line : List ℕ} {res
 
 pub lines_all : (ns : List ℕ) (k : ℕ) (text : List ℕ) (from : ℕ) → length text ≤ from → before ns (prices_from k (lines (drop from text))) ≡ Ok ns
 unfolding lines prices_from
-lines_all ns k text from past = ap (λ t. before ns (prices_from k (lines t))) (drop_all from text past) ∙ ap Ok (append_nil ns)
+lines_all ns k text from past = ap (λ t. before ns (prices_from k (lines t))) (drop_all from text past) ∙ ap Ok (append-nil ns)
 
 pub told : (e : InputError) (p : Result (List ℕ) InputError) → p ≡ Err e → Told e p
 told NoPrices p is = is

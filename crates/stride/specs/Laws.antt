@@ -1,8 +1,8 @@
 -- The stride mapping keeps the laws. Assumes nothing.
 use Rattle.std.specs.Prelude.{◌≡◌, ℕ, ◌+◌, ◌-◌, ◌*◌, ◌/◌, ◌%◌, ◌<◌, ◌≤◌, true, not, ◌&&◌, List, Some, ◌==◌, nat_le, refl}
 use Rattle.std.proofs.Common.{sym, ap, ◌∙◌, arith}
-use Rattle.std.proofs.lemmas.Nat.{div_mul_add, mod_mul_add, mod_below}
-use Rattle.std.proofs.lemmas.Bool.{and_parts, leb_true, eqb_true}
+use Rattle.std.proofs.lemmas.Nat.{div-mul-add, mod-mul-add, mod_below}
+use Rattle.std.proofs.lemmas.Bool.{and_parts, leb-true, eqb-true}
 use Rattle.mapping.specs.Rules.{image, divides}
 use Rattle.mapping.proofs.Laws.{Armed, Addressed}
 use Rattle.mapping.proofs.Multiples.{times_multiple, multiple_trans, skip_multiple, quotient_below, rows_apart, split_apart, row_below}
@@ -23,7 +23,7 @@ met B D F passed =
     let b = and_parts (element B && not (D == 0) && divides 128 D) (nat_le (F + B) D) a.0 in
     let c = and_parts (element B && not (D == 0)) (divides 128 D) b.0 in
     let d = and_parts (element B) (not (D == 0)) c.0 in
-    record { size = sized B d.0; lines = eqb_true (D % 128) 0 c.1; room = leb_true (F + B) D b.1; line = leb_true (F % 128 + B) 128 a.1 }
+    record { size = sized B d.0; lines = eqb-true (D % 128) 0 c.1; room = leb-true (F + B) D b.1; line = leb-true (F % 128 + B) 128 a.1 }
 
 module _ (B D F : ℕ) (m : Met B D F) where
   rest : (s : ℕ) → F + s % B < D
@@ -42,7 +42,7 @@ module _ (B D F : ℕ) (m : Met B D F) where
       split_apart s t B both.0 (omega (arith, both.1))
 
   follows : (k i : ℕ) → i < B → address B D F (k * B + i) ≡ k * D + F + i
-  follows k i small = rw (div_mul_add k B i small, mod_mul_add k B i small) refl
+  follows k i small = rw (div-mul-add k B i small, mod-mul-add k B i small) refl
 
   first : (k : ℕ) → address B D F (k * B) ≡ k * D + F
   first k =

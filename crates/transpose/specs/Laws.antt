@@ -1,9 +1,9 @@
 -- The transpose mapping keeps the laws. Assumes nothing.
 use Rattle.std.specs.Prelude.{◌≡◌, ℕ, ◌+◌, ◌-◌, ◌*◌, ◌/◌, ◌%◌, ◌^◌, ◌<◌, ◌≤◌, true, ◌&&◌, List, Some, nat_le, refl}
-use Rattle.std.proofs.Common.{sym, ap, ◌∙◌, mul_assoc, mul_div_cancel, add_mul, arith}
-use Rattle.std.proofs.Math.Nat.{div_div_eq_div_mul, mul_mod_left, mul_mod_right, mod_mod_of_dvd, dvd_of_mod_eq_zero, div_mul_cancel}
-use Rattle.std.proofs.lemmas.Nat.{div_mul_add, mod_mul_add, mod_below, mul_le}
-use Rattle.std.proofs.lemmas.Bool.{and_parts, leb_true, eqb_true}
+use Rattle.std.proofs.Common.{sym, ap, ◌∙◌, mul_assoc, mul-div_cancel, add-mul, arith}
+use Rattle.std.proofs.Math.Nat.{div-div-eq-div-mul, mul-mod_left, mul-mod_right, mod-mod_of_dvd, dvd_of_mod-eq-zero, div-mul_cancel}
+use Rattle.std.proofs.lemmas.Nat.{div-mul-add, mod-mul-add, mod_below, mul-le}
+use Rattle.std.proofs.lemmas.Bool.{and_parts, leb-true, eqb-true}
 use Rattle.mapping.specs.Rules.{image, divides, power}
 use Rattle.mapping.proofs.Laws.{Armed, Addressed}
 use Rattle.mapping.proofs.Multiples.{times_multiple, multiple_trans, multiple_room, skip_multiple, quotient_below, rows_apart, split_apart, row_below}
@@ -29,22 +29,22 @@ met I B D N passed =
     record {
       size = sized B d.0;
       some = power_some N d.1;
-      rows = eqb_true (D % B) 0 c.1;
-      whole = eqb_true (I % (B * N)) 0 b.1;
-      room = leb_true (I / N) D a.1;
+      rows = eqb-true (D % B) 0 c.1;
+      whole = eqb-true (I % (B * N)) 0 b.1;
+      room = leb-true (I / N) D a.1;
     }
 
 module _ (I B D N : ℕ) (m : Met I B D N) where
   -- the image is a multiple of an element, and of a whole column
   elements : I % B ≡ 0
-  elements = multiple_trans B (B * N) I (mul_mod_right B N) m.whole
+  elements = multiple_trans B (B * N) I (mul-mod_right B N) m.whole
 
   -- the part of a row that is shown is as many elements as there are columns
   columns : I / (B * N) * B ≡ I / N
   columns =
-      let all : I / (B * N) * (B * N) ≡ I = div_mul_cancel (B * N) (dvd_of_mod_eq_zero (B * N) m.whole) in
+      let all : I / (B * N) * (B * N) ≡ I = div-mul_cancel (B * N) (dvd_of_mod-eq-zero (B * N) m.whole) in
       let parts : I / (B * N) * B * N ≡ I = mul_assoc (I / (B * N)) B N ∙ all in
-      sym (mul_div_cancel (I / (B * N) * B) m.some) ∙ ap (λ n. n / N) parts
+      sym (mul-div_cancel (I / (B * N) * B) m.some) ∙ ap (λ n. n / N) parts
 
   -- a byte stands before the end of what is shown of its row
   rest : (s : ℕ) → s < I → s / B / N * B + s % B < I / N
@@ -52,11 +52,11 @@ module _ (I B D N : ℕ) (m : Met I B D N) where
       let size = m.size in
       let some = m.some in
       let left = mod_below s B (omega arith) in
-      let both : s / B / N ≡ s / (B * N) = div_div_eq_div_mul s B N in
-      let cell : 0 < B * N = mul_le 1 1 B N (omega arith) (omega arith) in
+      let both : s / B / N ≡ s / (B * N) = div-div-eq-div-mul s B N in
+      let cell : 0 < B * N = mul-le 1 1 B N (omega arith) (omega arith) in
       let column = quotient_below s I (B * N) cell m.whole below in
-      let before = mul_le (s / B / N + 1) B (I / (B * N)) B (omega arith) (omega arith) in
-      omega (arith, add_mul (s / B / N) 1 B, columns)
+      let before = mul-le (s / B / N + 1) B (I / (B * N)) B (omega arith) (omega arith) in
+      omega (arith, add-mul (s / B / N) 1 B, columns)
 
   pub within : (s : ℕ) → s < I → address B D N s < extent I D N
   within s below =
@@ -75,7 +75,7 @@ module _ (I B D N : ℕ) (m : Met I B D N) where
       split_apart s t B (split_apart (s / B) (t / B) N column.0 line.0) column.1
 
   pub follows : (k i : ℕ) → i < B → address B D N (k * B + i) ≡ k % N * D + k / N * B + i
-  follows k i small = rw (div_mul_add k B i small, mod_mul_add k B i small) refl
+  follows k i small = rw (div-mul-add k B i small, mod-mul-add k B i small) refl
 
   pub start : (k : ℕ) → address B D N (k * B) ≡ k % N * D + k / N * B
   start k =
@@ -89,8 +89,8 @@ module _ (I B D N : ℕ) (m : Met I B D N) where
   line k =
       let size = m.size in
       let v = k % N * D + k / N * B in
-      let even : v % B ≡ 0 = skip_multiple (k % N * D) (k / N * B) B (times_multiple (k % N) D B m.rows) ∙ mul_mod_left (k / N) B in
-      let inner : v % 128 % B ≡ 0 = mod_mod_of_dvd B v (dvd_of_mod_eq_zero B size.fills) ∙ even in
+      let even : v % B ≡ 0 = skip_multiple (k % N * D) (k / N * B) B (times_multiple (k % N) D B m.rows) ∙ mul-mod_left (k / N) B in
+      let inner : v % 128 % B ≡ 0 = mod-mod_of_dvd B v (dvd_of_mod-eq-zero B size.fills) ∙ even in
       multiple_room (v % 128) 128 B inner size.fills (mod_below v 128 (omega arith))
 
 pub addressed : (rs : List ℕ) → Armed transpose_rules rs → Addressed transpose_rules rs

@@ -3,8 +3,8 @@ use Rattle.dense.specs.Dense.{before, pieces}
 use Rattle.dense.proofs.gather.Given as goal
 
 -- The pieces so far and those that are left are the line, and the memory means what it meant.
-abbrev pub invariant_loop_k : goal.invariant_loop_k
-invariant_loop_k g l =
+abbrev pub invariant-loop-k : goal.invariant-loop-k
+invariant-loop-k g l =
     let m = g.M.Memory in
     let laid = g.P.Mapping.meaning l.mapping in
     (before (Ok (take (l.k * 4) l.line)) (pieces laid (m.meaning l.initial.memory) l.k (32 - l.k)) ≡ pieces laid (m.meaning l.initial.memory) 0 32)

@@ -4,8 +4,8 @@ use Rattle.records.specs.Record.{priced}
 use Rattle.records.proofs.column.survey.Given as goal
 
 -- The readings so far, and a memory that means what it meant.
-abbrev pub invariant_loop_index : goal.invariant_loop_index
-invariant_loop_index g l =
+abbrev pub invariant-loop-index : goal.invariant-loop-index
+invariant-loop-index g l =
     let m = g.M.Memory in
     (vec_items l.readings ≡ map (priced (m.meaning l.initial.memory)) (range_with_len 0 l.index))
     × (m.meaning l.memory ≡ m.meaning l.initial.memory)

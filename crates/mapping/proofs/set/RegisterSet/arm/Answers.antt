@@ -2,5 +2,5 @@
 use Rattle.std.proofs.Common.{rules}
 use Rattle.mapping.proofs.set.RegisterSet.arm.Goals as goal
 
-pub returns_in_Ok : goal.returns_in_Ok
-returns_in_Ok g c = record { answer = search rules; kept = search rules; lawful = g.met.M.Mapping.lawful c.in_Ok.mapping }
+pub returns-in-Ok : goal.returns-in-Ok
+returns-in-Ok g c = record { answer = search rules; kept = search rules; lawful = g.met.M.Mapping.lawful c.in-Ok.mapping }

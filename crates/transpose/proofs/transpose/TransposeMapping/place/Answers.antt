@@ -5,8 +5,8 @@ use Rattle.transpose.specs.Transpose.{transpose_rules, held}
 use Rattle.transpose.specs.Laws.{low}
 use Rattle.transpose.proofs.transpose.TransposeMapping.place.Goals as goal
 
-pub address_requires : goal.address_requires
-address_requires c =
+pub address-requires : goal.address-requires
+address-requires c =
     let rs = held c.args.self.now.registers in
     record {
       size = search rules;
