@@ -1,4 +1,6 @@
 // Checked memory: it borrows 129 bytes for each line, 128 cells and then their exclusive or, the check byte.
+#![tactic(auto)]
+
 pub mod chip;
 
 ghost use Rattle.std.specs.Prelude.{◌≡◌, ◌+◌, ◌/◌, ◌^◌, ◌<◌, ◌≤◌, length, take, Ok};

@@ -1,2 +1,4 @@
 // The page colour mapping.
+#![tactic(auto)]
+
 pub mod colour;

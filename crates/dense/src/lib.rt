@@ -1,4 +1,6 @@
 // A dense line: 32 prices that a mapping gathers from the data in a memory.
+#![tactic(auto)]
+
 ghost use Rattle.std.specs.Prelude.{◌≡◌, ◌<◌, IfOk};
 ghost use Rattle.dense.specs.Dense.{piece, gathered, Dense, word, price_at, total_of};
 

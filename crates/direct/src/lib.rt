@@ -1,2 +1,4 @@
 // The direct mapping.
+#![tactic(auto)]
+
 pub mod direct;

@@ -1,4 +1,6 @@
 // Tests at the edges: one suite over any memory, and what belongs to one part of the library alone.
+#![tactic(auto)]
+
 #[cfg(test)]
 mod bottoms;
 #[cfg(test)]

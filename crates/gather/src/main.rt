@@ -1,4 +1,6 @@
 // A dense line of prices: records in plain memory, gathered by a stride mapping that is set up by registers.
+#![tactic(auto)]
+
 use anyhow::anyhow;
 use dense::{gather, line_total, price_at};
 use mapping::contract::Mapping;

@@ -1,4 +1,6 @@
 // An invoice run over checked memory: prices in, records laid down, read back, corrected, and one failing bit.
+#![tactic(auto)]
+
 use anyhow::anyhow;
 use checked::Checked;
 use checked::chip::flip;

@@ -1,4 +1,6 @@
 // Tests of the sets and the mappings, at both sides of every edge.
+#![tactic(auto)]
+
 #[cfg(test)]
 mod arming;
 #[cfg(test)]

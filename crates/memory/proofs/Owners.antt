@@ -1,11 +1,12 @@
 -- What the owner of borrowed bytes knows of a state that calls lead to. Assumes nothing.
-use Rattle.std.proofs.Common.{◌≡◌, ℕ, List, [], ◌∷◌, sym, refl, ap, ◌∙◌, subst, Bor}
+use Rattle.std.proofs.Common.{◌≡◌, ℕ, List, [], ◌∷◌, sym, refl, ap, ◌∙◌, subst}
+use Rattle.std.specs.Borrow.{MutBor}
 use Rattle.memory.specs.Bytes.{Over}
 use Rattle.memory.specs.Reach.{Call, Linked, Reached, after_calls}
 use Rattle.memory.proofs.Reaches.{reached_keeps}
 
 -- a state that borrows bytes, each call of which leaves those that the second parameter says
-module _ {S : Type 0} (bytes : S → Bor (List ℕ)) (called : List ℕ → Call → List ℕ) where
+module _ {S : Type 0} (bytes : S → MutBor (List ℕ)) (called : List ℕ → Call → List ℕ) where
   abbrev pub Step : S → Call → S → Type 0
   Step s c t = Over (bytes t) (called (bytes s).now c) (bytes s)
 

@@ -1,4 +1,6 @@
 // Plain memory: it borrows bytes, and they are its cells.
+#![tactic(auto)]
+
 ghost use Rattle.std.specs.Prelude.{◌≡◌, ◌/◌, length, Ok};
 ghost use Rattle.memory.specs.Bytes.{Over};
 ghost use Rattle.memory.specs.Meaning.{cells};

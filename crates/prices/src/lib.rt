@@ -1,4 +1,6 @@
 // A list of prices as text: decimal, in cents, one to a line.
+#![tactic(auto)]
+
 ghost use Rattle.std.specs.Prelude.{◌≡◌, ◌+◌, ◌-◌, ◌<◌, ◌≤◌, ◌∷◌, length, take, drop, Ok, MatchResult};
 ghost use Rattle.prices.specs.Prices.{capped, lines, price, line_read, Told, prices};
 ghost use Rattle.prices.specs.declared.InputError.TheVariants.{NoMemory};

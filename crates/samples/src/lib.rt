@@ -1,4 +1,6 @@
 // The worked examples of docs/: computed by the library, and proved from its definitions.
+#![tactic(auto)]
+
 ghost use Rattle.std.specs.Prelude.{◌≡◌};
 ghost use Rattle.samples.specs.Mappings.{MappingExamples};
 ghost use Rattle.samples.specs.Runs.{run_answers, RunExamples};
