@@ -40,8 +40,8 @@ impl<M: Mapping> RegisterSet<M> {
     // Uses the set up, or refuses and hands it back as it was. What is armed keeps the laws of a mapping.
     pub fn arm(self) -> Result<ArmedSet<M>, (ArmingRefusal, RegisterSet<M>)>
         ensures answer { refusal result ≡ arming M.Registers.RegisterRecord.rules (M.Registers.RegisterRecord.held self.registers) }
-        ensures kept { kept (λ a. source a.mapping) (λ s. s.registers) result ≡ self.registers }
-        ensures lawful { IfOk result (λ a. Lawful (meaning a.mapping)) }
+        ensures kept { kept (λ a. M.source a.mapping) (λ s. s.registers) result ≡ self.registers }
+        ensures lawful { IfOk result (λ a. Lawful (M.meaning a.mapping)) }
     {
         let RegisterSet { registers } = self;
         match M::armed(registers) {

@@ -13,10 +13,10 @@ pub type Reading = Result<u32, Fault>;
 
 // Writes one record for each price, from address 0 on, up to the first that is refused.
 pub fn lay_down<M: Memory>(memory: &mut M, prices: &[u32]) -> Result<(), Fault>
-    requires { coherent memory.old }
-    ensures answer { result ≡ laying (meaning memory.old) 0 prices.now }
-    ensures meaning { meaning memory.new ≡ laid (meaning memory.old) prices.now }
-    ensures coherent { coherent memory.new }
+    requires { M.coherent memory.old }
+    ensures answer { result ≡ laying (M.meaning memory.old) 0 prices.now }
+    ensures meaning { M.meaning memory.new ≡ laid (M.meaning memory.old) prices.now }
+    ensures coherent { M.coherent memory.new }
 {
     let mut address = 0;
     for price in prices {
@@ -32,10 +32,10 @@ pub fn survey<M: Memory>(
     memory: &mut M,
     count: u32,
 ) -> Result<Vec<Reading>, AllocError>
-    requires { coherent memory.old }
-    ensures made { IfOk result (λ v. v.items ≡ surveyed (meaning memory.old) count) }
-    ensures meaning { meaning memory.new ≡ meaning memory.old }
-    ensures coherent { coherent memory.new }
+    requires { M.coherent memory.old }
+    ensures made { IfOk result (λ v. v.items ≡ surveyed (M.meaning memory.old) count) }
+    ensures meaning { M.meaning memory.new ≡ M.meaning memory.old }
+    ensures coherent { M.coherent memory.new }
 {
     let mut readings = Vec::new(heap);
     for index in 0..count {

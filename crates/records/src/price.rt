@@ -27,10 +27,10 @@ pub fn place(index: u32) -> u64
 }
 
 pub fn read_price<M: Memory>(memory: &mut M, index: u32) -> Result<u32, Fault>
-    requires { coherent memory.old }
-    ensures value { result ≡ priced (meaning memory.old) index }
-    ensures meaning { meaning memory.new ≡ meaning memory.old }
-    ensures coherent { coherent memory.new }
+    requires { M.coherent memory.old }
+    ensures value { result ≡ priced (M.meaning memory.old) index }
+    ensures meaning { M.meaning memory.new ≡ M.meaning memory.old }
+    ensures coherent { M.coherent memory.new }
 {
     let mut bytes = [0; 4];
     memory.read(place(index), &mut bytes)?;
@@ -38,10 +38,10 @@ pub fn read_price<M: Memory>(memory: &mut M, index: u32) -> Result<u32, Fault>
 }
 
 pub fn write_price<M: Memory>(memory: &mut M, index: u32, price: u32) -> Result<(), Fault>
-    requires { coherent memory.old }
-    ensures answer { result ≡ answer (meaning memory.old) (place index) 4 }
-    ensures meaning { meaning memory.new ≡ written (meaning memory.old) (place index) (digits price) }
-    ensures coherent { coherent memory.new }
+    requires { M.coherent memory.old }
+    ensures answer { result ≡ answer (M.meaning memory.old) (place index) 4 }
+    ensures meaning { M.meaning memory.new ≡ written (M.meaning memory.old) (place index) (digits price) }
+    ensures coherent { M.coherent memory.new }
 {
     memory.write(place(index), &price.to_be_bytes())
 }

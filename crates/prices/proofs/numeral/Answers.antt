@@ -35,7 +35,7 @@ pub returns : goal.returns
 returns c =
     let line = c.args.line.now in
     let value = c.loop-byte.value in
-    let filled = eqb-false (length line) 0 (sym c.if-is-empty.ensures) in
+    let filled = eqb-false (length line) 0 (sym c.if-is_empty.ensures) in
     let some : 0 < length line = omega arith in
     let held : value ≡ min value (2 ^ 32) = omega arith in
     ap Some held ∙ sym (ap capped (price_some line some) ∙ sym c.loop-byte.invariant.0 ∙ ap capped (numeral_all line c.loop-byte.byte-index value c.loop-byte-test.false))

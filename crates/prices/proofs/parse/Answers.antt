@@ -12,7 +12,7 @@ returns-then-is-empty c = prices_none c.args.text.now (eqb-true _ _ (sym c.if-is
 pub loop-from-init : goal.loop-from-init
 loop-from-init c =
     let text = c.args.text.now in
-    let filled = eqb-false (length text) 0 (sym c.if-is-empty.ensures) in (
+    let filled = eqb-false (length text) 0 (sym c.if-is_empty.ensures) in (
       ap (λ ns. before ns (prices_from 1 (lines text))) c.new-list.ensures.items
           ∙ before_none (prices_from 1 (lines text))
           ∙ sym (prices_some text (omega arith)),
@@ -28,10 +28,10 @@ returns-in-err-read-line c =
 
 pub loop-from-preserved : goal.loop-from-preserved
 loop-from-preserved c =
-    let rest = lines (drop (c.line-end-end.result + 1) c.args.text.now) in (
-      ap (λ ns. before ns (prices_from (c.loop-from.number + 1) rest)) c.in-ok-push.ensures.items
-          ∙ line_more (vec_items c.loop-from.list) c.loop-from.number c.line-end-end.ensures.first c.in-ok-read-line.field-0
-          (sym c.read-line.ensures ∙ c.in-ok-read-line.was)
+    let rest = lines (drop (c.line_end-end.result + 1) c.args.text.now) in (
+      ap (λ ns. before ns (prices_from (c.loop-from.number + 1) rest)) c.in_ok-push.ensures.items
+          ∙ line_more (vec_items c.loop-from.list) c.loop-from.number c.line_end-end.ensures.first c.in_ok-read_line.field-0
+          (sym c.read-line.ensures ∙ c.in_ok-read_line.was)
           ∙ c.loop-from.invariant.0,
       omega arith,
     )

@@ -17,8 +17,8 @@ returns-in-err-write g c =
 
 pub loop-price-preserved : goal.loop-price-preserved
 loop-price-preserved g c = (
-  write_more c.loop-price.invariant.0 c.loop-price-test.true c.loop-price.invariant.2 c.record-of.ensures c.write.ensures.meaning
-      (sym c.write.ensures.answer ∙ c.in-ok-write.was),
+  write_more c.loop-price.invariant.0 c.loop-price-test.true c.loop-price.invariant.2 c.record_of.ensures c.write.ensures.meaning
+      (sym c.write.ensures.answer ∙ c.in_ok-write.was),
   c.write.ensures.coherent,
   omega (arith, c.loop-price.invariant.2),
 )

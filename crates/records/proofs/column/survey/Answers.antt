@@ -12,12 +12,12 @@ loop-index-preserved g c =
     let m = g.M.Memory.meaning c.args.memory.now in
     let i = c.loop-index.index in
     let same = c.loop-index.invariant.1 in
-    let read : c.read-price.result ≡ priced m i = c.read-price.ensures.value ∙ ap (λ n. priced n i) same in (
-      pushed (c.read-price.result ∷ []) c.loop-index.invariant.0 c.in-ok-push.was c.push.ensures.items
+    let read : c.read_price.result ≡ priced m i = c.read_price.ensures.value ∙ ap (λ n. priced n i) same in (
+      pushed (c.read_price.result ∷ []) c.loop-index.invariant.0 c.in_ok-push.was c.push.ensures.items
           ∙ ap (λ r. map (priced m) (range_with_len 0 i) ++ r ∷ []) read
           ∙ sym (map-range_with_len_more (priced m) 0 i i (omega arith)),
-      c.read-price.ensures.meaning ∙ same,
-      c.read-price.ensures.coherent,
+      c.read_price.ensures.meaning ∙ same,
+      c.read_price.ensures.coherent,
     )
 
 pub returns : goal.returns
