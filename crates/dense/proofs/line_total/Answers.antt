@@ -13,4 +13,4 @@ loop-k-preserved c =
     let line = c.args.line.now in
     let k = c.loop-k.k in
     let next : total_of line (k + 1) ≡ total_of line k + word line k = ap (total_of line) (add-one k) in
-    (omega (arith, next, c.loop-k.invariant.0, c.word-at.ensures), omega arith)
+    (omega (arith, next, c.loop-k.invariant.0, c.word_at.ensures), omega arith)

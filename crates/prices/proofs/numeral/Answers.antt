@@ -6,8 +6,8 @@ use Rattle.prices.proofs.Numbers.{price_some, price_none, numeral_more, numeral_
 use Rattle.prices.proofs.numeral.Goals as goal
 use Rattle.prices.proofs.numeral.Goals.{then-byte-lt48-via-then-byte-lt48, then-byte-lt48-via-else-byte-lt48+then-byte-gt57}
 
-pub returns-then-is-empty : goal.returns-then-is-empty
-returns-then-is-empty c = ap capped (sym (price_none c.args.line.now (eqb-true _ _ (sym c.if-is-empty.ensures))))
+pub returns-then-is_empty : goal.returns-then-is_empty
+returns-then-is_empty c = ap capped (sym (price_none c.args.line.now (eqb-true _ _ (sym c.if-is_empty.ensures))))
 
 pub returns-then-byte-lt48 : goal.returns-then-byte-lt48
 returns-then-byte-lt48 c =

@@ -6,8 +6,8 @@ use Rattle.prices.specs.Prices.{lines, prices_from, prices}
 use Rattle.prices.proofs.Texts.{before, before_none, prices_some, prices_none, line_more, line_bad, lines_all, told}
 use Rattle.prices.proofs.parse.Goals as goal
 
-pub returns-then-is-empty : goal.returns-then-is-empty
-returns-then-is-empty c = prices_none c.args.text.now (eqb-true _ _ (sym c.if-is-empty.ensures))
+pub returns-then-is_empty : goal.returns-then-is_empty
+returns-then-is_empty c = prices_none c.args.text.now (eqb-true _ _ (sym c.if-is_empty.ensures))
 
 pub loop-from-init : goal.loop-from-init
 loop-from-init c =
@@ -19,11 +19,11 @@ loop-from-init c =
       omega arith,
     )
 
-pub returns-in-err-read-line : goal.returns-in-err-read-line
-returns-in-err-read-line c =
-    let p = err_from_is_err_and c.from-residual.result c.from-residual.ensures.1 in
-    let bad = line_bad (vec_items c.loop-from.list) c.loop-from.number c.line-end-end.ensures.first p.0
-    (sym c.read-line.ensures ∙ c.in-err-read-line.was ∙ ap Err (sym p.2)) in
+pub returns-in_err-read_line : goal.returns-in_err-read_line
+returns-in_err-read_line c =
+    let p = err_from_is_err_and c.from_residual.result c.from_residual.ensures.1 in
+    let bad = line_bad (vec_items c.loop-from.list) c.loop-from.number c.line_end-end.ensures.first p.0
+    (sym c.read_line.ensures ∙ c.in_err-read_line.was ∙ ap Err (sym p.2)) in
     rw p.1 (told p.0 (prices c.args.text.now) (sym c.loop-from.invariant.0 ∙ bad))
 
 pub loop-from-preserved : goal.loop-from-preserved
@@ -31,7 +31,7 @@ loop-from-preserved c =
     let rest = lines (drop (c.line_end-end.result + 1) c.args.text.now) in (
       ap (λ ns. before ns (prices_from (c.loop-from.number + 1) rest)) c.in_ok-push.ensures.items
           ∙ line_more (vec_items c.loop-from.list) c.loop-from.number c.line_end-end.ensures.first c.in_ok-read_line.field-0
-          (sym c.read-line.ensures ∙ c.in_ok-read_line.was)
+          (sym c.read_line.ensures ∙ c.in_ok-read_line.was)
           ∙ c.loop-from.invariant.0,
       omega arith,
     )

@@ -7,12 +7,12 @@ use Rattle.records.proofs.column.lay_down.Goals as goal
 pub loop-price-init : goal.loop-price-init
 loop-price-init g c = (laying_none _ _, c.requires, refl)
 
-pub returns-in-err-write : goal.returns-in-err-write
-returns-in-err-write g c =
-    let p = err_from_is_err_and c.from-residual.result c.from-residual.ensures.1 in
+pub returns-in_err-write : goal.returns-in_err-write
+returns-in_err-write g c =
+    let p = err_from_is_err_and c.from_residual.result c.from_residual.ensures.1 in
     let end =
-    write_refused c.loop-price.invariant.0 c.loop-price-test.true c.loop-price.invariant.2 c.record-of.ensures c.write.ensures.meaning
-    p.0 (sym c.write.ensures.answer ∙ c.in-err-write.was ∙ ap Err (sym p.2)) in
+    write_refused c.loop-price.invariant.0 c.loop-price-test.true c.loop-price.invariant.2 c.record_of.ensures c.write.ensures.meaning
+    p.0 (sym c.write.ensures.answer ∙ c.in_err-write.was ∙ ap Err (sym p.2)) in
     record { answer = p.1 ∙ sym end.0; meaning = end.1; coherent = c.write.ensures.coherent }
 
 pub loop-price-preserved : goal.loop-price-preserved
