@@ -6,10 +6,10 @@ use Rattle.samples.proofs.worked_examples.Goals as goal
 pub returns : goal.returns
 returns c = record {
   computed = λ i. record {
-    eight = c.check-run.ensures i;
-    nine = c.check-run-2.ensures i;
-    none = c.check-run-3.ensures i;
-    one = c.check-run-4.ensures i;
+    eight = c.check_run.ensures i;
+    nine = c.check_run-2.ensures i;
+    none = c.check_run-3.ensures i;
+    one = c.check_run-4.ensures i;
   };
   runs = run_examples;
   mappings = mapping_examples;
