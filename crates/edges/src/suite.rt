@@ -7,8 +7,8 @@ const LAST: u64 = 18_446_744_073_709_551_615;
 
 // Reads a byte that a write put there, with its neighbours as they were.
 fn keeps_a_byte<M: Memory>(rt: &impl Abort, memory: &mut M, a: u64)
-    requires { coherent memory.old }
-    ensures { coherent memory.new }
+    requires { M.coherent memory.old }
+    ensures { M.coherent memory.new }
 {
     let mut before = [7; 3];
     let mut after = [9; 3];
@@ -25,8 +25,8 @@ fn keeps_a_byte<M: Memory>(rt: &impl Abort, memory: &mut M, a: u64)
 
 // Runs that no memory takes, at any size.
 fn refuses_bad_runs<M: Memory>(rt: &impl Abort, memory: &mut M)
-    requires { coherent memory.old }
-    ensures { coherent memory.new }
+    requires { M.coherent memory.old }
+    ensures { M.coherent memory.new }
 {
     let mut none: [u8; 0] = [];
     let mut long = [1; 129];
@@ -46,8 +46,8 @@ fn refuses_bad_runs<M: Memory>(rt: &impl Abort, memory: &mut M)
 
 // The last byte of a memory, and the first past it.
 fn ends_at<M: Memory>(rt: &impl Abort, memory: &mut M, size: u64)
-    requires { coherent memory.old }
-    ensures { coherent memory.new }
+    requires { M.coherent memory.old }
+    ensures { M.coherent memory.new }
 {
     let mut one = [5];
     let told = memory.size();
@@ -59,8 +59,8 @@ fn ends_at<M: Memory>(rt: &impl Abort, memory: &mut M, size: u64)
 
 // All of the above, over a memory of this size that has at least one line and no fault.
 pub fn edges<M: Memory>(rt: &impl Abort, memory: &mut M, size: u64)
-    requires { coherent memory.old }
-    ensures { coherent memory.new }
+    requires { M.coherent memory.old }
+    ensures { M.coherent memory.new }
 {
     refuses_bad_runs(rt, memory);
     ends_at(rt, memory, size);
