@@ -8,21 +8,22 @@ use checked::chip::flip;
 use memory::contract::Memory;
 use memory::fault::{Cause, Fault};
 use plain::Plain;
+use std::test::Fail;
 
 #[test]
-fn plain_edges(rt: HostRuntime) {
+fn plain_edges() -> Result<(), Fail> {
     let mut one_line = [0; 128];
     let mut with_part = [0; 300];
-    edges(&rt, &mut Plain::new(&mut one_line), 128);
-    edges(&rt, &mut Plain::new(&mut with_part), 256);
+    edges(&mut Plain::new(&mut one_line), 128)?;
+    edges(&mut Plain::new(&mut with_part), 256)
 }
 
 #[test]
-fn checked_edges(rt: HostRuntime) {
+fn checked_edges() -> Result<(), Fail> {
     let mut one_line = [0; 129];
     let mut with_part = [0; 386];
-    edges(&rt, &mut Checked::new(&mut one_line), 128);
-    edges(&rt, &mut Checked::new(&mut with_part), 256);
+    edges(&mut Checked::new(&mut one_line), 128)?;
+    edges(&mut Checked::new(&mut with_part), 256)
 }
 
 #[test]

@@ -12,4 +12,6 @@ mod lists;
 #[cfg(test)]
 mod messages;
 #[cfg(test)]
+mod same;
+#[cfg(test)]
 mod suite;

@@ -1,39 +1,31 @@
 // What is written of each cause and of a fault.
+use crate::same::same;
 use memory::custom::CustomCause;
 use memory::fault::{Cause, Fault};
 use std::alloc::Global;
-use std::process::Abort;
 use std::test::Fail;
 
-fn cause_says(rt: &impl Abort, heap: Global, cause: Cause, text: &str) -> Result<(), Fail> {
-    assert_eq!(rt; cause.to_string(heap)?.as_str(), text);
-    Ok(())
+fn cause_says(heap: Global, cause: Cause, text: &str) -> Result<(), Fail> {
+    same(cause.to_string(heap)?.as_str(), text)
 }
 
 #[test]
 fn causes(rt: HostRuntime) -> Result<(), Fail> {
     let heap = rt.alloc();
     cause_says(
-        &rt,
         heap,
         Cause::BadRun,
         "the run does not fit one line (cause 1)",
     )?;
-    cause_says(
-        &rt,
-        heap,
-        Cause::PastEnd,
-        "the run passes the size (cause 2)",
-    )?;
-    cause_says(&rt, heap, Cause::Blank, "blank (cause 3)")?;
-    cause_says(&rt, heap, Cause::NoPage, "no page (cause 4)")?;
-    cause_says(&rt, heap, Cause::PageOut, "page out (cause 5)")?;
-    cause_says(&rt, heap, Cause::FailedCheck, "failed check (cause 6)")?;
+    cause_says(heap, Cause::PastEnd, "the run passes the size (cause 2)")?;
+    cause_says(heap, Cause::Blank, "blank (cause 3)")?;
+    cause_says(heap, Cause::NoPage, "no page (cause 4)")?;
+    cause_says(heap, Cause::PageOut, "page out (cause 5)")?;
+    cause_says(heap, Cause::FailedCheck, "failed check (cause 6)")?;
     let Some(custom) = CustomCause::new(200) else {
         return Err(Fail::new("200 is free"));
     };
     cause_says(
-        &rt,
         heap,
         Cause::Custom(custom),
         "a cause of an added memory (cause 200)",

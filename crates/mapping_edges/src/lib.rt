@@ -10,4 +10,6 @@ mod places;
 #[cfg(test)]
 mod registers;
 #[cfg(test)]
+mod same;
+#[cfg(test)]
 mod setup;

@@ -1,22 +1,23 @@
 // Where the bytes of an image stand.
+use crate::same::same;
 use crate::setup::place;
 use colour::colour::Colour;
 use direct::direct::Direct;
 use mapping::contract::Mapping;
-use std::process::Abort;
+use std::test::Fail;
 use stride::stride::Stride;
 use transpose::transpose::Transpose;
 
-fn check_places<M: Mapping>(rt: &impl Abort, values: &[u64], cases: &[(u64, Option<u64>)]) {
+fn check_places<M: Mapping>(values: &[u64], cases: &[(u64, Option<u64>)]) -> Result<(), Fail> {
     for (s, expected) in cases {
-        assert_eq!(rt; place::<M>(values, *s), *expected);
+        same(place::<M>(values, *s), *expected)?;
     }
+    Ok(())
 }
 
 #[test]
-fn direct(rt: HostRuntime) {
+fn direct() -> Result<(), Fail> {
     check_places::<Direct>(
-        &rt,
         &[256],
         &[
             (0, Some(0)),
@@ -24,13 +25,12 @@ fn direct(rt: HostRuntime) {
             (256, None),
             (u64::MAX, None),
         ],
-    );
+    )
 }
 
 #[test]
-fn stride(rt: HostRuntime) {
+fn stride() -> Result<(), Fail> {
     check_places::<Stride>(
-        &rt,
         &[128, 0, 4, 128, 8],
         &[
             (0, Some(8)),
@@ -40,19 +40,17 @@ fn stride(rt: HostRuntime) {
             (128, None),
             (u64::MAX, None),
         ],
-    );
+    )?;
     // past 32 bits
     check_places::<Stride>(
-        &rt,
         &[1048704, 0, 4, 16384, 0],
         &[(1048703, Some(4295475203)), (1048704, None)],
-    );
+    )
 }
 
 #[test]
-fn transpose(rt: HostRuntime) {
+fn transpose() -> Result<(), Fail> {
     check_places::<Transpose>(
-        &rt,
         &[128, 0, 4, 32, 4],
         &[
             (0, Some(0)),
@@ -63,13 +61,12 @@ fn transpose(rt: HostRuntime) {
             (127, Some(127)),
             (128, None),
         ],
-    );
+    )
 }
 
 #[test]
-fn colour(rt: HostRuntime) {
+fn colour() -> Result<(), Fail> {
     check_places::<Colour>(
-        &rt,
         &[32768, 0, 16384, 4096, 8192],
         &[
             (0, None),
@@ -83,5 +80,5 @@ fn colour(rt: HostRuntime) {
             (28672, None),
             (40960, None),
         ],
-    );
+    )
 }

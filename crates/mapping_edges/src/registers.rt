@@ -1,38 +1,43 @@
 // Which registers a mapping has, and how wide they are.
+use crate::same::same;
 use crate::setup::written;
 use colour::colour::Colour;
 use direct::direct::Direct;
 use mapping::contract::Mapping;
-use std::process::Abort;
+use std::test::Fail;
 use stride::stride::Stride;
 use transpose::transpose::Transpose;
 
 // Each register takes its largest value and refuses the next; there is no register after the last.
-fn check_widths<M: Mapping>(rt: &impl Abort, widths: &[u32]) {
+fn check_widths<M: Mapping>(widths: &[u32]) -> Result<(), Fail> {
     for (number, width) in widths.iter().enumerate() {
-        assert!(rt; *width < 64);
+        if *width >= 64 {
+            return Err(Fail::new("a register has at most 63 bits"));
+        }
         let limit = 1u64 << *width;
-        assert!(rt; limit > 0);
-        assert_eq!(rt; written::<M>(number as u64, limit - 1), 0);
-        assert_eq!(rt; written::<M>(number as u64, limit), 12);
-        assert_eq!(rt; written::<M>(number as u64, u64::MAX), 12);
+        if limit == 0 {
+            return Err(Fail::new("a power of two is not 0"));
+        }
+        same(written::<M>(number as u64, limit - 1), 0)?;
+        same(written::<M>(number as u64, limit), 12)?;
+        same(written::<M>(number as u64, u64::MAX), 12)?;
     }
-    assert_eq!(rt; written::<M>(widths.len() as u64, 0), 11);
-    assert_eq!(rt; written::<M>(u64::MAX, u64::MAX), 11);
+    same(written::<M>(widths.len() as u64, 0), 11)?;
+    same(written::<M>(u64::MAX, u64::MAX), 11)
 }
 
 #[test]
-fn widths(rt: HostRuntime) {
-    check_widths::<Direct>(&rt, &[32, 28]);
-    check_widths::<Colour>(&rt, &[32, 28, 32, 32, 32]);
-    check_widths::<Stride>(&rt, &[32, 28, 12, 16, 12]);
-    check_widths::<Transpose>(&rt, &[32, 28, 12, 32, 32]);
+fn widths() -> Result<(), Fail> {
+    check_widths::<Direct>(&[32, 28])?;
+    check_widths::<Colour>(&[32, 28, 32, 32, 32])?;
+    check_widths::<Stride>(&[32, 28, 12, 16, 12])?;
+    check_widths::<Transpose>(&[32, 28, 12, 32, 32])
 }
 
 #[test]
-fn types(rt: HostRuntime) {
-    assert_eq!(rt; Direct::TYPE, 1);
-    assert_eq!(rt; Colour::TYPE, 2);
-    assert_eq!(rt; Stride::TYPE, 3);
-    assert_eq!(rt; Transpose::TYPE, 4);
+fn types() -> Result<(), Fail> {
+    same(Direct::TYPE, 1)?;
+    same(Colour::TYPE, 2)?;
+    same(Stride::TYPE, 3)?;
+    same(Transpose::TYPE, 4)
 }
