@@ -1,5 +1,5 @@
 -- The direct mapping keeps the laws. Assumes nothing.
-use Rattle.std.specs.Prelude.{◌≡◌, ℕ, ◌*◌, ◌≤◌, List, refl}
+use Rattle.std.specs.Prelude.{◌≡◌, ℕ, ◌*◌, List, refl}
 use Rattle.std.proofs.Math.Nat.{mul-mod_left}
 use Rattle.std.proofs.Common.{arith, lit≤}
 use Rattle.mapping.proofs.Laws.{Addressed}

@@ -1,5 +1,5 @@
 -- What the owner of borrowed bytes knows of a state that calls lead to. Assumes nothing.
-use Rattle.std.proofs.Common.{◌≡◌, ℕ, List, [], ◌∷◌, sym, refl, ap, ◌∙◌, subst}
+use Rattle.std.proofs.Common.{◌≡◌, ℕ, List, [], ◌∷◌, sym, ap, ◌∙◌, subst}
 use Rattle.std.specs.Borrow.{MutBor}
 use Rattle.memory.specs.Bytes.{Over}
 use Rattle.memory.specs.Reach.{Call, Linked, Reached, after_calls}

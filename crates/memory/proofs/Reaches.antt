@@ -1,5 +1,5 @@
 -- States that calls lead to: none, one, one list after the other. Assumes nothing.
-use Rattle.std.proofs.Common.{◌≡◌, List, [], ◌∷◌, ◌++◌, sym, refl, subst}
+use Rattle.std.proofs.Common.{List, [], ◌∷◌, ◌++◌, sym, refl, subst}
 use Rattle.memory.specs.Reach.{Call, Linked, Reached}
 
 module _ {S : Type 0} (R : S → Call → S → Type 0) where

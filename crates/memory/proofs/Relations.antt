@@ -1,13 +1,13 @@
 -- What a write keeps, and what two meanings that agree have in common. Assumes nothing.
-use Rattle.std.proofs.Common.{◌≡◌, ℕ, zero, suc, ◌+◌, ◌-◌, ◌<◌, ◌≤◌, cond, List, length, get_or, is_ok, Ok, Err, Result, sym, refl, ap, ◌∙◌, subst, ⊎_elim, arith}
+use Rattle.std.proofs.Common.{◌≡◌, ℕ, zero, suc, ◌-◌, ◌<◌, cond, List, length, get_or, is_ok, Ok, Err, Result, sym, refl, ap, ◌∙◌, subst, ⊎_elim, arith}
 use Rattle.std.specs.Result.{result_and}
 use Rattle.memory.specs.declared.fault.Fault.{Fault}
-use Rattle.memory.specs.Meaning.{Cell, byte, fault, Meaning}
+use Rattle.memory.specs.Meaning.{Cell, fault, Meaning}
 use Rattle.memory.specs.Run.{bounded}
 use Rattle.memory.specs.Calls.{plain, value, sound, answer, bytes, delivered, stored, written}
 use Rattle.memory.specs.Relation.{Kept, Agree, Agreement}
 use Rattle.memory.proofs.Runs.{Taken, taken}
-use Rattle.memory.proofs.Overlays.{Inside, Outside, cases_run}
+use Rattle.memory.proofs.Overlays.{Inside, cases_run}
 use Rattle.memory.proofs.Writes.{stored_inside, stored_outside, same_size, accepted_taken, accepted_each}
 
 pub kept_same : (m : Meaning) → Kept m m

@@ -1,5 +1,5 @@
 -- The transpose mapping keeps the laws. Assumes nothing.
-use Rattle.std.specs.Prelude.{◌≡◌, ℕ, ◌+◌, ◌-◌, ◌*◌, ◌/◌, ◌%◌, ◌^◌, ◌<◌, ◌≤◌, true, ◌&&◌, List, Some, nat_le, refl}
+use Rattle.std.specs.Prelude.{◌≡◌, ℕ, ◌+◌, ◌*◌, ◌/◌, ◌%◌, ◌^◌, ◌<◌, ◌≤◌, true, ◌&&◌, List, Some, nat_le, refl}
 use Rattle.std.proofs.Common.{sym, ap, ◌∙◌, mul_assoc, mul-div_cancel, add-mul, arith}
 use Rattle.std.proofs.Math.Nat.{div-div-eq-div-mul, mul-mod_left, mul-mod_right, mod-mod_of_dvd, dvd_of_mod-eq-zero, div-mul_cancel}
 use Rattle.std.proofs.lemmas.Nat.{div-mul-add, mod-mul-add, mod_below, mul-le}

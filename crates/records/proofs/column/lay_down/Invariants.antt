@@ -1,4 +1,4 @@
-use Rattle.std.proofs.Common.{◌≡◌, ◌-◌, ◌*◌}
+use Rattle.std.proofs.Common.{◌≡◌, ◌*◌}
 use Rattle.records.proofs.Columns.{Laying}
 use Rattle.records.proofs.column.lay_down.Given as goal
 
