@@ -1,25 +1,33 @@
 #!/bin/sh
 # Shows that a build refuses programs that misuse register sets and addresses, and accepts one of the same shape.
-# Each program is put together in a temporary folder and checked against the proved libraries of this repository.
+# The programs are put together in a temporary folder, beside a copy of the libraries that they use, and checked there.
 set -u
 cd "$(dirname "$0")/.." || exit 2
-rt check mapping stride >/dev/null || { echo "refused builds: the libraries are not proved"; exit 1; }
 work=$(mktemp -d) || exit 2
 trap 'rm -rf "$work"' EXIT
 failed=0
 
+mkdir "$work/crates"
+cp -R crates/mapping crates/stride "$work/crates/"
+cat >"$work/crates.txt" <<'LIST'
+mapping:
+stride: mapping
+LIST
+
 # program NAME MIDDLE: a crate that writes a set and arms it, with MIDDLE between arming and reading a place
 program() {
-    mkdir -p "$work/$1/src" "$work/$1/specs" "$work/$1/proofs"
-    : >"$work/$1/specs/Lib.antt"
-    : >"$work/$1/proofs/Lib.antt"
-    cat >"$work/$1/src/lib.rt" <<PROGRAM
+    mkdir -p "$work/crates/$1/src" "$work/crates/$1/specs" "$work/crates/$1/proofs"
+    : >"$work/crates/$1/specs/Lib.antt"
+    : >"$work/crates/$1/proofs/Lib.antt"
+    echo "$1: mapping stride" >>"$work/crates.txt"
+    cat >"$work/crates/$1/src/lib.rt" <<PROGRAM
+#![tactic(auto)]
+
 use mapping::address::MemoryAddress;
 use mapping::address::WindowAddress;
 use mapping::contract::Mapping;
 use mapping::set::RegisterSet;
 use stride::stride::Stride;
-use stride::stride::StrideMapping;
 
 pub fn program() -> u64 {
     let mut set = RegisterSet::<Stride>::new();
@@ -31,8 +39,7 @@ PROGRAM
 }
 
 checked() {
-    rt check "$work/$1" --extern mapping=target/rlib/mapping.rlib --extern stride=target/rlib/stride.rlib \
-        -L dependency=target/rlib >"$work/$1.log" 2>&1
+    (cd "$work/crates/$1" && rt check) >"$work/$1.log" 2>&1
 }
 
 # refused NAME ERROR WORDS: the checker turns NAME away, and says ERROR

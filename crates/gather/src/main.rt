@@ -11,6 +11,7 @@ use prices::parse;
 use records::column::lay_down;
 use std::env;
 use std::io::Read;
+use std::process::ExitCode;
 use stride::stride::Stride;
 
 // Prices in a dense line.
@@ -19,12 +20,13 @@ const PRICES: usize = 32;
 // Bytes of a record.
 const RECORD: usize = 128;
 
-fn main(rt: HostRuntime) -> anyhow::Result<()> {
-    let done = run(&rt);
-    if let Err(error) = &done {
+// What goes wrong is said once, after the program's name, and is status 1.
+fn main(rt: HostRuntime) -> anyhow::Result<ExitCode> {
+    if let Err(error) = run(&rt) {
         eprintln!(rt; "gather: {error}")?;
+        return Ok(ExitCode::FAILURE);
     }
-    done
+    Ok(ExitCode::SUCCESS)
 }
 
 fn run(rt: &HostRuntime) -> anyhow::Result<()> {

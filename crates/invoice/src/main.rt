@@ -10,6 +10,7 @@ use records::column::{Reading, lay_down, readable, survey, total};
 use records::price::write_price;
 use std::env;
 use std::io::Read;
+use std::process::ExitCode;
 
 // Bytes of a record with its check byte.
 const STRIDE: usize = 129;
@@ -17,12 +18,13 @@ const STRIDE: usize = 129;
 // The lowest byte of the price in the first record.
 const CENTS: usize = 11;
 
-fn main(rt: HostRuntime) -> anyhow::Result<()> {
-    let done = run(&rt);
-    if let Err(error) = &done {
+// What goes wrong is said once, after the program's name, and is status 1.
+fn main(rt: HostRuntime) -> anyhow::Result<ExitCode> {
+    if let Err(error) = run(&rt) {
         eprintln!(rt; "invoice: {error}")?;
+        return Ok(ExitCode::FAILURE);
     }
-    done
+    Ok(ExitCode::SUCCESS)
 }
 
 fn run(rt: &HostRuntime) -> anyhow::Result<()> {
