@@ -15,4 +15,5 @@ test:
 	rt ci 2>&1 | tee "$$log"; \
 	if grep -E '^rt: ok.*, [1-9][0-9]* bad' "$$log"; then echo 'an edit of must-fail/ could not be tried'; exit 1; fi; \
 	scripts/refused_builds.sh; \
+	scripts/program_ends.sh; \
 	tail -n 1 "$$log"
