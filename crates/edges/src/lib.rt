@@ -6,6 +6,8 @@ mod bottoms;
 #[cfg(test)]
 mod columns;
 #[cfg(test)]
+mod dense_line;
+#[cfg(test)]
 mod faults;
 #[cfg(test)]
 mod lists;

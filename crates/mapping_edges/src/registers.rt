@@ -41,3 +41,12 @@ fn types() -> Result<(), Fail> {
     same(Stride::TYPE, 3)?;
     same(Transpose::TYPE, 4)
 }
+
+// The function says the same number as the constant.
+#[test]
+fn type_numbers() -> Result<(), Fail> {
+    same(Direct::type_number(), 1)?;
+    same(Colour::type_number(), 2)?;
+    same(Stride::type_number(), 3)?;
+    same(Transpose::type_number(), 4)
+}

@@ -66,7 +66,7 @@ module _ (c d : ℕ → Cell) where
 
 module _ (m n : Meaning) (agree : Agree m n) (a k : ℕ) where
   inside : Taken m.size a k → (i : ℕ) → Inside a k i → m.cell i ≡ n.cell i
-  inside run i within-run = agree.cells i (omega arith)
+  inside run i within_run = agree.cells i (omega arith)
 
   -- by what the test of the run answers
   reads_by : (r : Result (Unit {0}) Fault) → bounded m.size a k ≡ r → result_and r (sound m.cell a k) ≡ result_and r (sound n.cell a k)

@@ -5,7 +5,7 @@ use lib.Arith.{bin_ind}
 use lib.Count.{ones, ones_step, ones_cat, ones-le}
 use lib.Pow.{pow-lt}
 use Rattle.std.proofs.lemmas.Bool.{eqb-true, eq-eqb, cases_lt}
-use Rattle.units.specs.Power.{isPowerOfTwo, PowerOfTwo}
+use Rattle.units.specs.Power.{is_power_of_two, PowerOfTwo}
 
 -- a number without a bit set is 0
 ones_none : (n : ℕ) → ones n ≡ 0 → n ≡ 0
@@ -14,8 +14,8 @@ ones_none = bin_ind (λ n. ones n ≡ 0 → n ≡ 0) (λ _. refl) (λ n half non
     let low : n / 2 ≡ 0 = half (omega arith) in
     omega arith)
 
-ones-one : (n : ℕ) → ones n ≡ 1 → PowerOfTwo n
-ones-one = bin_ind (λ n. ones n ≡ 1 → PowerOfTwo n) (λ one. let none = ones-le 0 0 (lit< tt) in absurd (omega arith)) (λ n half one.
+ones_one : (n : ℕ) → ones n ≡ 1 → PowerOfTwo n
+ones_one = bin_ind (λ n. ones n ≡ 1 → PowerOfTwo n) (λ one. let none = ones-le 0 0 (lit< tt) in absurd (omega arith)) (λ n half one.
     let bits = ones_step n in
     ⊎_elim
     (λ even. let rest = half (omega arith) in (rest.0 + 1, omega (arith, pow-add 2 rest.0 1, rest.1)))
@@ -23,8 +23,8 @@ ones-one = bin_ind (λ n. ones n ≡ 1 → PowerOfTwo n) (λ one. let none = one
     (cases_lt (n % 2) 1))
 
 -- the smaller of two powers divides the larger
-powers-divide : (i j : ℕ) → 2 ^ i ≤ 2 ^ j → 2 ^ j % 2 ^ i ≡ 0
-powers-divide i j le =
+powers_divide : (i j : ℕ) → 2 ^ i ≤ 2 ^ j → 2 ^ j % 2 ^ i ≡ 0
+powers_divide i j le =
     ⊎_elim
     (λ over. absurd (let more = pow-lt over in omega arith))
     (λ under.
@@ -32,20 +32,20 @@ powers-divide i j le =
     ap (λ n. 2 ^ n % 2 ^ i) split ∙ ap (λ n. n % 2 ^ i) (pow-add 2 i (j - i)) ∙ mul-mod_right (2 ^ i) (2 ^ (j - i)))
     (cases_lt j i)
 
-pub power-is : (n : ℕ) → isPowerOfTwo n ≡ true → PowerOfTwo n
-power-is n one = ones-one n (eqb-true (ones n) 1 one)
+pub power_is : (n : ℕ) → is_power_of_two n ≡ true → PowerOfTwo n
+power_is n one = ones_one n (eqb-true (ones n) 1 one)
 
-pub power_divides : (m n : ℕ) → isPowerOfTwo m ≡ true → isPowerOfTwo n ≡ true → m ≤ n → n % m ≡ 0
+pub power_divides : (m n : ℕ) → is_power_of_two m ≡ true → is_power_of_two n ≡ true → m ≤ n → n % m ≡ 0
 power_divides m n one two le =
-    let k = power-is m one in
-    let l = power-is n two in
-    rw (k.1, l.1) (powers-divide k.0 l.0 (omega (arith, k.1, l.1)))
+    let k = power_is m one in
+    let l = power_is n two in
+    rw (k.1, l.1) (powers_divide k.0 l.0 (omega (arith, k.1, l.1)))
 
-pub power-some : (n : ℕ) → isPowerOfTwo n ≡ true → 0 < n
-power-some n one = let k = power-is n one in omega (arith, k.1, pow_pos k.0)
+pub power_some : (n : ℕ) → is_power_of_two n ≡ true → 0 < n
+power_some n one = let k = power_is n one in omega (arith, k.1, pow_pos k.0)
 
-pub power-pow : (k : ℕ) → isPowerOfTwo (2 ^ k) ≡ true
-power-pow k = eq-eqb (ones (2 ^ k)) 1 (
+pub power_pow : (k : ℕ) → is_power_of_two (2 ^ k) ≡ true
+power_pow k = eq-eqb (ones (2 ^ k)) 1 (
     let bits = ones_cat k 1 0 (pow_pos k) in
     let top : ones (2 ^ k) ≡ ones (1 * 2 ^ k + 0) = ap ones (omega arith) in
     let one : ones 1 ≡ 1 + ones 0 = ones_step 1 in

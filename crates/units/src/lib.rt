@@ -1,4 +1,6 @@
 // What every layer counts in: lines, pages, words of four bytes, powers of two.
+#![tactic(auto)]
+
 mod power;
 mod size;
 

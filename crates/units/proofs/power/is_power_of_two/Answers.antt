@@ -1,16 +1,16 @@
 -- One bit set is one power of two. Assumes nothing.
 use Rattle.std.proofs.Common.{sym, ap, ◌∙◌}
-use Rattle.units.specs.Power.{isPowerOfTwo}
-use Rattle.units.proofs.Powers.{power-is, power-pow}
+use Rattle.units.specs.Power.{is_power_of_two}
+use Rattle.units.proofs.Powers.{power_is, power_pow}
 use Rattle.units.proofs.power.is_power_of_two.Goals as goal
 
 pub returns : goal.returns
 returns c =
-    let test = c.one-bit.ensures in
+    let test = c.one_bit.ensures in
     record {
       value = test;
       decides = (
-        λ yes. power-is c.args.n (sym test ∙ yes),
-        λ power. test ∙ ap isPowerOfTwo power.1 ∙ power-pow power.0,
+        λ yes. power_is c.args.n (sym test ∙ yes),
+        λ power. test ∙ ap is_power_of_two power.1 ∙ power_pow power.0,
       );
     }

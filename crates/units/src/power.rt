@@ -1,17 +1,17 @@
 // The one test for a power of two.
 ghost use Rattle.std.specs.Prelude.{◌≡◌, Decides};
-ghost use Rattle.units.specs.Power.{isPowerOfTwo, PowerOfTwo};
+ghost use Rattle.units.specs.Power.{is_power_of_two, PowerOfTwo};
 
 // Whether n is 1, 2, 4, 8 and so on.
 pub fn is_power_of_two(n: u64) -> bool
-    ensures value { result ≡ isPowerOfTwo n }
+    ensures value { result ≡ is_power_of_two n }
     ensures decides { Decides result (PowerOfTwo n) }
 {
     one_bit(n)
 }
 
 fn one_bit(n: u64) -> bool
-    ensures { result ≡ isPowerOfTwo n }
+    ensures { result ≡ is_power_of_two n }
 {
     n.count_ones() == 1
 }
