@@ -8,9 +8,10 @@ trap 'rm -rf "$work"' EXIT
 failed=0
 
 mkdir "$work/crates"
-cp -R crates/mapping crates/stride "$work/crates/"
+cp -R crates/units crates/mapping crates/stride "$work/crates/"
 cat >"$work/crates.txt" <<'LIST'
-mapping:
+units:
+mapping: units
 stride: mapping
 LIST
 
