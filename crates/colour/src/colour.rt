@@ -1,20 +1,16 @@
 // Page colour: the data is spread over the image so that it meets one part, a colour, of each way of a cache.
-ghost use Rattle.std.specs.Prelude.{◌≡◌, ◌<◌, true, refl};
-ghost use Rattle.mapping.specs.Rules.{layout};
-ghost use Rattle.mapping.specs.Arming.{arms};
+ghost use Rattle.std.specs.Prelude.{◌≡◌, ◌<◌, refl};
 ghost use Rattle.colour.specs.Colour.{colour_rules, held};
 ghost use Rattle.mapping.proofs.Laws;
 ghost use Rattle.colour.specs.Colour as SpecsColour;
 ghost use Rattle.colour.specs.Laws.{addressed};
 
 use mapping::address::{PseudoVirtualAddress, WindowAddress};
-use mapping::arming::{LINE, objection};
-use mapping::contract::{Mapping, RegisterRecord};
-use mapping::refusal::{ArmingRefusal, RegisterRefusal};
+use mapping::armed::{Addressing, Armed};
+use mapping::contract::RegisterRecord;
+use mapping::refusal::RegisterRefusal;
 use mapping::register::Register;
-
-// Bytes in a page. A way and a colour are made of whole pages.
-const PAGE: u64 = 4096;
+use units::{LINE, PAGE};
 
 #[derive(Drop)]
 pub struct ColourRegisters {
@@ -83,66 +79,37 @@ impl RegisterRecord for ColourRegisters {
     }
 
     fn extent(&self) -> Option<u64> {
-        if self.met() { Some(self.end()) } else { None }
+        self.met().then(|| self.end())
     }
 }
 
-#[derive(Drop)]
-pub struct Colour {
-    registers: ColourRegisters,
-    ghost armed: { arms colour_rules (held registers) ≡ true },
-}
-
-impl Mapping for Colour {
-    type Registers = ColourRegisters;
-
+impl Addressing for ColourRegisters {
     const TYPE: u8 = 2;
 
-    ghost source = { λ m. m.registers };
+    ghost TYPE = { 2 };
 
-    ghost meaning = { λ m. layout colour_rules (held m.registers) };
+    ghost numbered = { refl };
 
-    ghost meant = { λ m. refl };
-
-    ghost lawful = { λ m.
-        let rs = SpecsColour.held m.registers in
-        Laws.lawful colour_rules rs m.armed m.registers.image.fits m.registers.table.fits (addressed rs (Laws.armed colour_rules rs m.armed)) };
-
-    fn type_number() -> u8 {
-        Self::TYPE
-    }
-
-    fn armed(registers: ColourRegisters) -> Result<Colour, (ArmingRefusal, ColourRegisters)> {
-        match objection(&registers) {
-            Some(refusal) => Err((refusal, registers)),
-            None => Ok(Colour { registers }),
-        }
-    }
-
-    fn image(&self) -> u64 {
-        self.registers.image.get()
-    }
+    ghost laws = { λ r passed.
+        let rs = SpecsColour.held r in
+        Laws.lawful colour_rules rs passed r.image.fits r.table.fits (addressed rs (Laws.armed colour_rules rs passed)) };
 
     fn table(&self) -> u64 {
-        self.registers.table.get()
+        self.table.get()
     }
 
     fn grain(&self) -> u64 {
         LINE
     }
 
-    fn extent(&self) -> u64 {
-        self.registers.end()
-    }
-
     fn place(&self, s: WindowAddress) -> Option<PseudoVirtualAddress> {
         let WindowAddress(s) = s;
-        if s >= self.registers.image.get() {
+        if s >= self.image.get() {
             return None;
         }
-        let colour = self.registers.colour.get();
-        let offset = self.registers.offset.get();
-        let way = self.registers.way.get();
+        let colour = self.colour.get();
+        let offset = self.offset.get();
+        let way = self.way.get();
         let inner = s % way;
         if inner < offset || inner >= offset + colour {
             return None;
@@ -150,3 +117,5 @@ impl Mapping for Colour {
         Some(PseudoVirtualAddress(s / way * colour + inner - offset))
     }
 }
+
+pub type Colour = Armed<ColourRegisters>;

@@ -1,17 +1,16 @@
 // Direct: the image is the data, byte by byte.
-ghost use Rattle.std.specs.Prelude.{◌≡◌, true, refl};
-ghost use Rattle.mapping.specs.Rules.{layout};
-ghost use Rattle.mapping.specs.Arming.{arms};
+ghost use Rattle.std.specs.Prelude.{◌≡◌, refl};
 ghost use Rattle.direct.specs.Direct.{direct_rules, held};
 ghost use Rattle.mapping.proofs.Laws;
 ghost use Rattle.direct.specs.Direct as SpecsDirect;
 ghost use Rattle.direct.specs.Laws.{addressed};
 
 use mapping::address::{PseudoVirtualAddress, WindowAddress};
-use mapping::arming::{LINE, objection};
-use mapping::contract::{Mapping, RegisterRecord};
-use mapping::refusal::{ArmingRefusal, RegisterRefusal};
+use mapping::armed::{Addressing, Armed};
+use mapping::contract::RegisterRecord;
+use mapping::refusal::RegisterRefusal;
 use mapping::register::Register;
+use units::LINE;
 
 #[derive(Drop)]
 pub struct DirectRegisters {
@@ -48,57 +47,26 @@ impl RegisterRecord for DirectRegisters {
     }
 }
 
-#[derive(Drop)]
-pub struct Direct {
-    registers: DirectRegisters,
-    ghost armed: { arms direct_rules (held registers) ≡ true },
-}
-
-impl Mapping for Direct {
-    type Registers = DirectRegisters;
-
+impl Addressing for DirectRegisters {
     const TYPE: u8 = 1;
 
-    ghost source = { λ m. m.registers };
+    ghost TYPE = { 1 };
 
-    ghost meaning = { λ m. layout direct_rules (held m.registers) };
+    ghost numbered = { refl };
 
-    ghost meant = { λ m. refl };
-
-    ghost lawful = { λ m. Laws.lawful direct_rules (SpecsDirect.held m.registers) m.armed m.registers.image.fits m.registers.table.fits (addressed (SpecsDirect.held m.registers)) };
-
-    fn type_number() -> u8 {
-        Self::TYPE
-    }
-
-    fn armed(registers: DirectRegisters) -> Result<Direct, (ArmingRefusal, DirectRegisters)> {
-        match objection(&registers) {
-            Some(refusal) => Err((refusal, registers)),
-            None => Ok(Direct { registers }),
-        }
-    }
-
-    fn image(&self) -> u64 {
-        self.registers.image.get()
-    }
+    ghost laws = { λ r passed. Laws.lawful direct_rules (SpecsDirect.held r) passed r.image.fits r.table.fits (addressed (SpecsDirect.held r)) };
 
     fn table(&self) -> u64 {
-        self.registers.table.get()
+        self.table.get()
     }
 
     fn grain(&self) -> u64 {
         LINE
     }
 
-    fn extent(&self) -> u64 {
-        self.image()
-    }
-
     fn place(&self, s: WindowAddress) -> Option<PseudoVirtualAddress> {
-        if s.0 < self.registers.image.get() {
-            Some(PseudoVirtualAddress(s.0))
-        } else {
-            None
-        }
+        (s.0 < self.image.get()).then_some(PseudoVirtualAddress(s.0))
     }
 }
+
+pub type Direct = Armed<DirectRegisters>;

@@ -43,8 +43,7 @@ impl<M: Mapping> RegisterSet<M> {
         ensures kept { kept (λ a. M.source a.mapping) (λ s. s.registers) result ≡ self.registers }
         ensures lawful { IfOk result (λ a. Lawful (M.meaning a.mapping)) }
     {
-        let RegisterSet { registers } = self;
-        match M::armed(registers) {
+        match M::armed(self.registers) {
             Ok(mapping) => Ok(ArmedSet { mapping }),
             Err((refusal, registers)) => Err((refusal, RegisterSet { registers })),
         }
@@ -56,7 +55,6 @@ impl<M: Mapping> ArmedSet<M> {
     pub fn into_mapping(self) -> M
         ensures { result ≡ self.mapping }
     {
-        let ArmedSet { mapping } = self;
-        mapping
+        self.mapping
     }
 }

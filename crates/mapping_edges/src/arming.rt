@@ -1,15 +1,26 @@
 // Which values arm, and with what number the others are refused.
-use crate::same::same;
 use crate::setup::{armed, set_of};
 use colour::colour::Colour;
 use direct::direct::Direct;
+use expect::same;
 use mapping::contract::Mapping;
+use mapping::refusal::ArmingRefusal;
 use std::test::Fail;
 use stride::stride::Stride;
 use transpose::transpose::Transpose;
 
-// Registers 0 and 2 to 4 of a set, with the number that arming it is refused with, or 0.
-fn check_cases<M: Mapping>(cases: &[([u64; 4], u8)]) -> Result<(), Fail> {
+// The set arms.
+const ARMS: Result<(), ArmingRefusal> = Ok(());
+
+// The refusals 13, 14 and 15.
+const BAD_IMAGE: Result<(), ArmingRefusal> = Err(ArmingRefusal::BadImage);
+
+const BAD_CONDITION: Result<(), ArmingRefusal> = Err(ArmingRefusal::BadCondition);
+
+const TOO_FAR: Result<(), ArmingRefusal> = Err(ArmingRefusal::TooFar);
+
+// Registers 0 and 2 to 4 of a set, with what arming it answers.
+fn check_cases<M: Mapping>(cases: &[([u64; 4], Result<(), ArmingRefusal>)]) -> Result<(), Fail> {
     for (values, expected) in cases {
         let [image, second, third, fourth] = *values;
         same(armed::<M>(&[image, 0, second, third, fourth]), *expected)?;
@@ -19,95 +30,95 @@ fn check_cases<M: Mapping>(cases: &[([u64; 4], u8)]) -> Result<(), Fail> {
 
 #[test]
 fn images() -> Result<(), Fail> {
-    same(armed::<Direct>(&[0]), 13)?;
-    same(armed::<Direct>(&[127]), 13)?;
-    same(armed::<Direct>(&[128]), 0)?;
-    same(armed::<Direct>(&[129]), 13)?;
-    same(armed::<Direct>(&[4294967168, 268435455]), 0)
+    same(armed::<Direct>(&[0]), BAD_IMAGE)?;
+    same(armed::<Direct>(&[127]), BAD_IMAGE)?;
+    same(armed::<Direct>(&[128]), ARMS)?;
+    same(armed::<Direct>(&[129]), BAD_IMAGE)?;
+    same(armed::<Direct>(&[4294967168, 268435455]), ARMS)
 }
 
 #[test]
 fn strides() -> Result<(), Fail> {
     check_cases::<Stride>(&[
-        ([128, 4, 128, 8], 0),
+        ([128, 4, 128, 8], ARMS),
         // the image before the condition
-        ([0, 0, 0, 0], 13),
-        ([64, 4, 128, 8], 13),
+        ([0, 0, 0, 0], BAD_IMAGE),
+        ([64, 4, 128, 8], BAD_IMAGE),
         // B
-        ([128, 0, 128, 0], 14),
-        ([128, 2, 128, 0], 14),
-        ([128, 5, 128, 0], 14),
-        ([128, 128, 128, 0], 0),
-        ([128, 256, 256, 0], 14),
+        ([128, 0, 128, 0], BAD_CONDITION),
+        ([128, 2, 128, 0], BAD_CONDITION),
+        ([128, 5, 128, 0], BAD_CONDITION),
+        ([128, 128, 128, 0], ARMS),
+        ([128, 256, 256, 0], BAD_CONDITION),
         // D
-        ([128, 4, 0, 0], 14),
-        ([128, 4, 127, 0], 14),
-        ([128, 4, 192, 0], 14),
-        ([128, 4, 256, 0], 0),
+        ([128, 4, 0, 0], BAD_CONDITION),
+        ([128, 4, 127, 0], BAD_CONDITION),
+        ([128, 4, 192, 0], BAD_CONDITION),
+        ([128, 4, 256, 0], ARMS),
         // F + B ≤ D
-        ([128, 4, 128, 124], 0),
-        ([128, 4, 128, 128], 14),
+        ([128, 4, 128, 124], ARMS),
+        ([128, 4, 128, 128], BAD_CONDITION),
         // F mod 128 + B ≤ 128
-        ([128, 4, 256, 125], 14),
-        ([128, 64, 256, 64], 0),
-        ([128, 128, 256, 64], 14),
+        ([128, 4, 256, 125], BAD_CONDITION),
+        ([128, 64, 256, 64], ARMS),
+        ([128, 128, 256, 64], BAD_CONDITION),
         // the extent, after the condition
-        ([536870912, 128, 4096, 3968], 0),
-        ([536871040, 128, 4096, 3968], 15),
-        ([536871040, 129, 4096, 3968], 14),
+        ([536870912, 128, 4096, 3968], ARMS),
+        ([536871040, 128, 4096, 3968], TOO_FAR),
+        ([536871040, 129, 4096, 3968], BAD_CONDITION),
     ])
 }
 
 #[test]
 fn transposes() -> Result<(), Fail> {
     check_cases::<Transpose>(&[
-        ([128, 4, 32, 4], 0),
+        ([128, 4, 32, 4], ARMS),
         // B
-        ([128, 2, 32, 4], 14),
-        ([128, 6, 36, 4], 14),
-        ([512, 128, 128, 4], 0),
-        ([1024, 256, 256, 4], 14),
+        ([128, 2, 32, 4], BAD_CONDITION),
+        ([128, 6, 36, 4], BAD_CONDITION),
+        ([512, 128, 128, 4], ARMS),
+        ([1024, 256, 256, 4], BAD_CONDITION),
         // N
-        ([128, 4, 32, 0], 14),
-        ([384, 4, 128, 3], 14),
-        ([128, 4, 128, 1], 0),
+        ([128, 4, 32, 0], BAD_CONDITION),
+        ([384, 4, 128, 3], BAD_CONDITION),
+        ([128, 4, 128, 1], ARMS),
         // B divides D
-        ([128, 4, 34, 4], 14),
-        ([128, 4, 36, 4], 0),
+        ([128, 4, 34, 4], BAD_CONDITION),
+        ([128, 4, 36, 4], ARMS),
         // B × N divides I
-        ([128, 4, 32, 32], 0),
-        ([128, 4, 32, 64], 14),
+        ([128, 4, 32, 32], ARMS),
+        ([128, 4, 32, 64], BAD_CONDITION),
         // I / N ≤ D
-        ([128, 4, 28, 4], 14),
+        ([128, 4, 28, 4], BAD_CONDITION),
         // the extent
-        ([128, 4, 2454267024, 8], 0),
-        ([128, 4, 2454267028, 8], 15),
+        ([128, 4, 2454267024, 8], ARMS),
+        ([128, 4, 2454267028, 8], TOO_FAR),
     ])
 }
 
 #[test]
 fn colours() -> Result<(), Fail> {
     check_cases::<Colour>(&[
-        ([32768, 16384, 4096, 8192], 0),
+        ([32768, 16384, 4096, 8192], ARMS),
         // W
-        ([32768, 0, 4096, 0], 14),
-        ([32768, 2048, 2048, 0], 14),
-        ([4096, 4096, 4096, 0], 0),
-        ([24576, 12288, 4096, 0], 14),
+        ([32768, 0, 4096, 0], BAD_CONDITION),
+        ([32768, 2048, 2048, 0], BAD_CONDITION),
+        ([4096, 4096, 4096, 0], ARMS),
+        ([24576, 12288, 4096, 0], BAD_CONDITION),
         // C
-        ([32768, 16384, 2048, 8192], 14),
-        ([32768, 16384, 12288, 0], 14),
-        ([32768, 16384, 16384, 0], 0),
+        ([32768, 16384, 2048, 8192], BAD_CONDITION),
+        ([32768, 16384, 12288, 0], BAD_CONDITION),
+        ([32768, 16384, 16384, 0], ARMS),
         // F
-        ([32768, 16384, 4096, 8191], 14),
-        ([32768, 16384, 4096, 10240], 14),
+        ([32768, 16384, 4096, 8191], BAD_CONDITION),
+        ([32768, 16384, 4096, 10240], BAD_CONDITION),
         // F + C ≤ W
-        ([32768, 16384, 4096, 12288], 0),
-        ([32768, 16384, 4096, 16384], 14),
+        ([32768, 16384, 4096, 12288], ARMS),
+        ([32768, 16384, 4096, 16384], BAD_CONDITION),
         // W divides I
-        ([16384, 16384, 4096, 8192], 0),
-        ([32896, 16384, 4096, 8192], 14),
-        ([8192, 16384, 4096, 8192], 14),
+        ([16384, 16384, 4096, 8192], ARMS),
+        ([32896, 16384, 4096, 8192], BAD_CONDITION),
+        ([8192, 16384, 4096, 8192], BAD_CONDITION),
     ])
 }
 

@@ -4,12 +4,8 @@
 #[cfg(test)]
 mod arming;
 #[cfg(test)]
-mod messages;
-#[cfg(test)]
 mod places;
 #[cfg(test)]
 mod registers;
-#[cfg(test)]
-mod same;
 #[cfg(test)]
 mod setup;

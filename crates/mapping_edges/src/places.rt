@@ -1,8 +1,8 @@
 // Where the bytes of an image stand.
-use crate::same::same;
 use crate::setup::place;
 use colour::colour::Colour;
 use direct::direct::Direct;
+use expect::same;
 use mapping::contract::Mapping;
 use std::test::Fail;
 use stride::stride::Stride;

@@ -1,16 +1,19 @@
 // Which registers a mapping has, and how wide they are.
-use crate::same::same;
 use crate::setup::written;
 use colour::colour::Colour;
 use direct::direct::Direct;
+use expect::same;
 use mapping::contract::Mapping;
+use mapping::refusal::{ArmingRefusal, RegisterRefusal};
 use std::test::Fail;
 use stride::stride::Stride;
 use transpose::transpose::Transpose;
 
 // Each register takes its largest value and refuses the next; there is no register after the last.
 fn check_widths<M: Mapping>(widths: &[u32]) -> Result<(), Fail> {
-    for (number, width) in widths.iter().enumerate() {
+    let no_register = Err(RegisterRefusal::NoRegister);
+    let too_wide = Err(RegisterRefusal::TooWide);
+    for (number, width) in (0..).zip(widths) {
         if *width >= 64 {
             return Err(Fail::new("a register has at most 63 bits"));
         }
@@ -18,12 +21,12 @@ fn check_widths<M: Mapping>(widths: &[u32]) -> Result<(), Fail> {
         if limit == 0 {
             return Err(Fail::new("a power of two is not 0"));
         }
-        same(written::<M>(number as u64, limit - 1), 0)?;
-        same(written::<M>(number as u64, limit), 12)?;
-        same(written::<M>(number as u64, u64::MAX), 12)?;
+        same(written::<M>(number, limit - 1), Ok(()))?;
+        same(written::<M>(number, limit), too_wide)?;
+        same(written::<M>(number, u64::MAX), too_wide)?;
     }
-    same(written::<M>(widths.len() as u64, 0), 11)?;
-    same(written::<M>(u64::MAX, u64::MAX), 11)
+    same(written::<M>(widths.len() as u64, 0), no_register)?;
+    same(written::<M>(u64::MAX, u64::MAX), no_register)
 }
 
 #[test]
@@ -49,4 +52,13 @@ fn type_numbers() -> Result<(), Fail> {
     same(Colour::type_number(), 2)?;
     same(Stride::type_number(), 3)?;
     same(Transpose::type_number(), 4)
+}
+
+#[test]
+fn refusal_numbers() -> Result<(), Fail> {
+    same(RegisterRefusal::NoRegister.number(), 11)?;
+    same(RegisterRefusal::TooWide.number(), 12)?;
+    same(ArmingRefusal::BadImage.number(), 13)?;
+    same(ArmingRefusal::BadCondition.number(), 14)?;
+    same(ArmingRefusal::TooFar.number(), 15)
 }

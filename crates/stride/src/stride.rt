@@ -1,18 +1,17 @@
 // Stride: objects that stand one stride apart in the data, side by side in the image.
-ghost use Rattle.std.specs.Prelude.{◌≡◌, ◌<◌, true, refl};
-ghost use Rattle.mapping.specs.Rules.{layout};
-ghost use Rattle.mapping.specs.Arming.{arms};
+ghost use Rattle.std.specs.Prelude.{◌≡◌, ◌<◌, refl};
 ghost use Rattle.stride.specs.Stride.{stride_rules, held};
 ghost use Rattle.mapping.proofs.Laws;
 ghost use Rattle.stride.specs.Stride as SpecsStride;
 ghost use Rattle.stride.specs.Laws.{addressed};
 
 use mapping::address::{PseudoVirtualAddress, WindowAddress};
-use mapping::arming::{LINE, objection};
-use mapping::contract::{Mapping, RegisterRecord};
+use mapping::armed::{Addressing, Armed};
+use mapping::contract::RegisterRecord;
 use mapping::element::is_element;
-use mapping::refusal::{ArmingRefusal, RegisterRefusal};
+use mapping::refusal::RegisterRefusal;
 use mapping::register::Register;
+use units::LINE;
 
 #[derive(Drop)]
 pub struct StrideRegisters {
@@ -80,65 +79,38 @@ impl RegisterRecord for StrideRegisters {
     }
 
     fn extent(&self) -> Option<u64> {
-        if self.met() { Some(self.end()) } else { None }
+        self.met().then(|| self.end())
     }
 }
 
-#[derive(Drop)]
-pub struct Stride {
-    registers: StrideRegisters,
-    ghost armed: { arms stride_rules (held registers) ≡ true },
-}
-
-impl Mapping for Stride {
-    type Registers = StrideRegisters;
-
+impl Addressing for StrideRegisters {
     const TYPE: u8 = 3;
 
-    ghost source = { λ m. m.registers };
+    ghost TYPE = { 3 };
 
-    ghost meaning = { λ m. layout stride_rules (held m.registers) };
+    ghost numbered = { refl };
 
-    ghost meant = { λ m. refl };
-
-    ghost lawful = { λ m.
-        let rs = SpecsStride.held m.registers in
-        Laws.lawful stride_rules rs m.armed m.registers.image.fits m.registers.table.fits (addressed rs (Laws.armed stride_rules rs m.armed)) };
-
-    fn type_number() -> u8 {
-        Self::TYPE
-    }
-
-    fn armed(registers: StrideRegisters) -> Result<Stride, (ArmingRefusal, StrideRegisters)> {
-        match objection(&registers) {
-            Some(refusal) => Err((refusal, registers)),
-            None => Ok(Stride { registers }),
-        }
-    }
-
-    fn image(&self) -> u64 {
-        self.registers.image.get()
-    }
+    ghost laws = { λ r passed.
+        let rs = SpecsStride.held r in
+        Laws.lawful stride_rules rs passed r.image.fits r.table.fits (addressed rs (Laws.armed stride_rules rs passed)) };
 
     fn table(&self) -> u64 {
-        self.registers.table.get()
+        self.table.get()
     }
 
     fn grain(&self) -> u64 {
-        self.registers.object.get()
-    }
-
-    fn extent(&self) -> u64 {
-        self.registers.end()
+        self.object.get()
     }
 
     fn place(&self, s: WindowAddress) -> Option<PseudoVirtualAddress> {
         let WindowAddress(s) = s;
-        if s >= self.registers.image.get() {
+        if s >= self.image.get() {
             return None;
         }
-        let object = self.registers.object.get();
-        let start = s / object * self.registers.stride.get() + self.registers.offset.get();
+        let object = self.object.get();
+        let start = s / object * self.stride.get() + self.offset.get();
         Some(PseudoVirtualAddress(start + s % object))
     }
 }
+
+pub type Stride = Armed<StrideRegisters>;

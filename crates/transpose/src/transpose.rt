@@ -1,17 +1,15 @@
 // Transpose: a matrix that lies row by row in the data, column by column in the image.
-ghost use Rattle.std.specs.Prelude.{◌≡◌, ◌^◌, ◌<◌, true, refl};
-ghost use Rattle.mapping.specs.Rules.{layout};
-ghost use Rattle.mapping.specs.Arming.{arms};
+ghost use Rattle.std.specs.Prelude.{◌≡◌, ◌^◌, ◌<◌, refl};
 ghost use Rattle.transpose.specs.Transpose.{transpose_rules, held, address};
 ghost use Rattle.mapping.proofs.Laws;
 ghost use Rattle.transpose.specs.Transpose as SpecsTranspose;
 ghost use Rattle.transpose.specs.Laws.{addressed};
 
 use mapping::address::{PseudoVirtualAddress, WindowAddress};
-use mapping::arming::objection;
-use mapping::contract::{Mapping, RegisterRecord};
+use mapping::armed::{Addressing, Armed};
+use mapping::contract::RegisterRecord;
 use mapping::element::is_element;
-use mapping::refusal::{ArmingRefusal, RegisterRefusal};
+use mapping::refusal::RegisterRefusal;
 use mapping::register::Register;
 
 #[derive(Drop)]
@@ -94,65 +92,36 @@ impl RegisterRecord for TransposeRegisters {
     }
 
     fn extent(&self) -> Option<u64> {
-        if self.met() { Some(self.end()) } else { None }
+        self.met().then(|| self.end())
     }
 }
 
-#[derive(Drop)]
-pub struct Transpose {
-    registers: TransposeRegisters,
-    ghost armed: { arms transpose_rules (held registers) ≡ true },
-}
-
-impl Mapping for Transpose {
-    type Registers = TransposeRegisters;
-
+impl Addressing for TransposeRegisters {
     const TYPE: u8 = 4;
 
-    ghost source = { λ m. m.registers };
+    ghost TYPE = { 4 };
 
-    ghost meaning = { λ m. layout transpose_rules (held m.registers) };
+    ghost numbered = { refl };
 
-    ghost meant = { λ m. refl };
-
-    ghost lawful = { λ m.
-        let rs = SpecsTranspose.held m.registers in
-        Laws.lawful transpose_rules rs m.armed m.registers.image.fits m.registers.table.fits (addressed rs (Laws.armed transpose_rules rs m.armed)) };
-
-    fn type_number() -> u8 {
-        Self::TYPE
-    }
-
-    fn armed(
-        registers: TransposeRegisters,
-    ) -> Result<Transpose, (ArmingRefusal, TransposeRegisters)> {
-        match objection(&registers) {
-            Some(refusal) => Err((refusal, registers)),
-            None => Ok(Transpose { registers }),
-        }
-    }
-
-    fn image(&self) -> u64 {
-        self.registers.image.get()
-    }
+    ghost laws = { λ r passed.
+        let rs = SpecsTranspose.held r in
+        Laws.lawful transpose_rules rs passed r.image.fits r.table.fits (addressed rs (Laws.armed transpose_rules rs passed)) };
 
     fn table(&self) -> u64 {
-        self.registers.table.get()
+        self.table.get()
     }
 
     fn grain(&self) -> u64 {
-        self.registers.element.get()
-    }
-
-    fn extent(&self) -> u64 {
-        self.registers.end()
+        self.element.get()
     }
 
     fn place(&self, s: WindowAddress) -> Option<PseudoVirtualAddress> {
         let WindowAddress(s) = s;
-        if s >= self.registers.image.get() {
+        if s >= self.image.get() {
             return None;
         }
-        Some(PseudoVirtualAddress(self.registers.address(s)))
+        Some(PseudoVirtualAddress(self.address(s)))
     }
 }
+
+pub type Transpose = Armed<TransposeRegisters>;
