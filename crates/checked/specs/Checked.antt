@@ -1,13 +1,12 @@
 -- Checked memory by the bytes that it borrows. Assumes nothing.
 -- guarding bytes: the meaning of a checked memory over these bytes
 -- updated bytes a bs: what the borrowed bytes are after a write of bs at a
--- Coherent size bytes: what holds of a checked memory's fields
 use Rattle.std.specs.Prelude.{ℕ, ◌+◌, ◌/◌, ◌%◌, cond, List, length, take, is_ok, ◌==◌, slice_index}
 use Rattle.std.proofs.Common.{arith}
 use Rattle.std.proofs.lemmas.Bool.{cond_both}
 use Rattle.memory.specs.declared.fault.Cause.TheVariants.{FailedCheck}
 use Rattle.memory.specs.Fault.{refusal}
-use Rattle.memory.specs.Bytes.{overlaid, Borrowed}
+use Rattle.memory.specs.Bytes.{overlaid, AllBytes}
 use Rattle.memory.specs.Meaning.{Cell, byte, fault, Meaning, cells, Sound, WellFormed}
 use Rattle.memory.specs.Calls.{answer}
 use Rattle.checked.specs.Line.{xor_all, sealed, start, line}
@@ -26,15 +25,12 @@ renewed bytes a bs = overlaid bytes (start a) (sealed (overlaid (take 128 (line 
 abbrev pub updated : List ℕ → ℕ → List ℕ → List ℕ
 updated bytes a bs = cond (is_ok (answer (guarding bytes) a (length bs))) (renewed bytes a bs) bytes
 
-abbrev pub Coherent : ℕ → List ℕ → Type 0
-Coherent size bytes = Borrowed 129 size bytes
-
-pub well_formed : {size : ℕ} {bytes : List ℕ} → Coherent size bytes → WellFormed (guarding bytes)
-well_formed {size} {bytes} c = record {
+pub well_formed : (bytes : List ℕ) → AllBytes bytes → WellFormed (guarding bytes)
+well_formed bytes low = record {
   lines = omega arith;
   most = omega arith;
   cells = λ i below.
       cond_both (xor_all (line bytes i) == 0) _ _ Sound
-      (λ _. c.low (start i + i % 128))
+      (λ _. low (start i + i % 128))
       (λ _. record { cause_low = omega arith; cause_high = omega arith; depth = omega arith; place = omega arith });
 }

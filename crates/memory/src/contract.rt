@@ -13,9 +13,6 @@ pub trait Memory {
     // Holds of every state that is reached from the memory's making.
     ghost coherent: { Self → Type 0 };
 
-    // The law that every memory proves: a coherent memory has a well-formed meaning.
-    ghost formed: { (m : Self) → coherent m → WellFormed (meaning m) };
-
     // What a read at an address, into a buffer that held these bytes, does to the state itself, beyond the meaning.
     ghost read_state: { Self → ℕ → List ℕ → Self → Type 0 };
 
@@ -42,4 +39,7 @@ pub trait Memory {
         ensures meaning { meaning self.new ≡ written (meaning self.old) a bytes.now }
         ensures coherent { coherent self.new }
         ensures state { write_state self.old a bytes.now self.new };
+
+    // The law that every memory proves: a coherent memory has a well-formed meaning.
+    ghost formed: { (m : Self) → coherent m → WellFormed (meaning m) };
 }

@@ -1,0 +1,85 @@
+// Memories over borrowed bytes. How the bytes hold the lines is a format; all else of such a memory stands here once.
+ghost use Rattle.std.specs.Prelude.{◌≡◌, ℕ, List, length};
+ghost use Rattle.memory.specs.Bytes.{AllBytes, Over};
+ghost use Rattle.memory.specs.Calls.{answer, delivered, written};
+ghost use Rattle.memory.specs.Meaning.{Meaning, WellFormed};
+
+use crate::contract::Memory;
+use crate::fault::Fault;
+use std::marker::PhantomData;
+
+// How bytes hold the lines of a memory. Any bytes mean one, so its calls ask nothing.
+pub trait LineFormat {
+    // The memory that the bytes mean.
+    ghost meaning: { List ℕ → Meaning };
+
+    // What the bytes are after a write at an address.
+    ghost updated: { List ℕ → ℕ → List ℕ → List ℕ };
+
+    fn size(lent: &[u8]) -> u64
+        ensures { result ≡ (meaning lent.now).size };
+
+    fn read(lent: &[u8], a: u64, buffer: &mut [u8]) -> Result<(), Fault>
+        ensures answer { result ≡ answer (meaning lent.now) a (length buffer.old) }
+        ensures buffer { buffer.new ≡ delivered (meaning lent.now) a buffer.old };
+
+    fn write(lent: &mut [u8], a: u64, bytes: &[u8]) -> Result<(), Fault>
+        ensures answer { result ≡ answer (meaning lent.old) a (length bytes.now) }
+        ensures lent { lent.new ≡ updated lent.old a bytes.now }
+        ensures meaning { meaning lent.new ≡ written (meaning lent.old) a bytes.now }
+        ensures bytes { AllBytes lent.new };
+
+    ghost formed: { (xs : List ℕ) → AllBytes xs → WellFormed (meaning xs) };
+}
+
+// The bytes are lent to the memory, and no other part of them is touched than the cells that a call names.
+#[derive(Drop)]
+pub struct Bottom<'a, F: LineFormat> {
+    bytes: &'a mut [u8],
+    format: PhantomData<F>,
+}
+
+impl<'a, F: LineFormat> Bottom<'a, F> {
+    pub fn new(bytes: &'a mut [u8]) -> Bottom<'a, F>
+        ensures bytes { Over result.bytes bytes.old bytes.entry }
+        ensures coherent { AllBytes result.bytes.now }
+    {
+        Bottom {
+            bytes,
+            format: PhantomData,
+        }
+    }
+
+    // A read of the bytes, which it leaves as they are.
+    fn fetch(&self, a: u64, buffer: &mut [u8]) -> Result<(), Fault>
+        ensures answer { result ≡ answer (F.meaning self.now.bytes.now) a (length buffer.old) }
+        ensures buffer { buffer.new ≡ delivered (F.meaning self.now.bytes.now) a buffer.old }
+    {
+        F::read(self.bytes, a, buffer)
+    }
+}
+
+impl<F: LineFormat> Memory for Bottom<'_, F> {
+    ghost meaning = { λ m. F.meaning m.bytes.now };
+
+    ghost coherent = { λ m. AllBytes m.bytes.now };
+
+    ghost formed = { λ m c. F.formed m.bytes.now c };
+
+    // A read leaves every borrowed byte.
+    ghost read_state = { λ before a buffer after. Over after.bytes before.bytes.now before.bytes };
+
+    ghost write_state = { λ before a bs after. Over after.bytes (F.updated before.bytes.now a bs) before.bytes };
+
+    fn size(&self) -> u64 {
+        F::size(self.bytes)
+    }
+
+    fn read(&mut self, a: u64, buffer: &mut [u8]) -> Result<(), Fault> {
+        self.fetch(a, buffer)
+    }
+
+    fn write(&mut self, a: u64, bytes: &[u8]) -> Result<(), Fault> {
+        F::write(self.bytes, a, bytes)
+    }
+}
