@@ -14,6 +14,4 @@ mod lists;
 #[cfg(test)]
 mod messages;
 #[cfg(test)]
-mod same;
-#[cfg(test)]
 mod suite;

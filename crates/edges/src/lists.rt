@@ -1,5 +1,5 @@
 // Lists of prices at the edges of what is accepted.
-use crate::same::same;
+use expect::same;
 use prices::{InputError, parse};
 use std::alloc::Global;
 use std::test::Fail;

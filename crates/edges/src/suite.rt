@@ -1,5 +1,5 @@
 // What every memory answers at the edges of its addresses. Each memory of the library runs it.
-use crate::same::same;
+use expect::same;
 use memory::contract::Memory;
 use memory::fault::{Cause, Fault};
 use std::test::Fail;

@@ -1,7 +1,7 @@
 // A dense line of prices: records in plain memory, gathered by a stride mapping that is set up by registers.
 #![tactic(auto)]
 
-use anyhow::anyhow;
+use anyhow::{Context, bail};
 use dense::{gather, line_total, price_at};
 use mapping::contract::Mapping;
 use mapping::set::RegisterSet;
@@ -23,40 +23,31 @@ const RECORD: usize = 128;
 // What goes wrong is said once, after the program's name, and is status 1.
 fn main(rt: HostRuntime) -> anyhow::Result<ExitCode> {
     if let Err(error) = run(&rt) {
-        eprintln!(rt; "gather: {error}")?;
+        eprintln!(rt; "gather: {error:#}")?;
         return Ok(ExitCode::FAILURE);
     }
     Ok(ExitCode::SUCCESS)
 }
 
 fn run(rt: &HostRuntime) -> anyhow::Result<()> {
-    let heap = rt.alloc();
     if env::args(rt)?.count() > 1 {
         return show_help(rt);
     }
+    let heap = rt.alloc();
     let mut text = Vec::new(heap);
-    let mut input = rt.stdin();
-    input.read_to_end(&mut text)?;
-    match parse(heap, &text) {
-        Ok(prices) => dense_line(rt, &prices),
-        Err(wrong) => Err(anyhow!(format!(in heap; "{wrong}")?)),
-    }
+    rt.stdin().read_to_end(&mut text)?;
+    dense_line(rt, &parse(heap, &text)?)
 }
 
 // Keeps the prices as records, and shows the first 32 of them as one line.
 fn dense_line(rt: &HostRuntime, prices: &[u32]) -> anyhow::Result<()> {
-    let heap = rt.alloc();
     let count = u32::try_from(prices.len())?;
     if prices.len() < PRICES {
-        return Err(anyhow!(format!(in heap;
-            "line {count}: the list ends here, and a dense line takes 32 prices"
-        )?));
+        bail!("line {count}: the list ends here, and a dense line takes 32 prices");
     }
-    let mut bytes = vec![in heap; 0u8; count as usize * RECORD]?;
+    let mut bytes = vec![in rt.alloc(); 0u8; count as usize * RECORD]?;
     let mut memory = Plain::new(&mut bytes);
-    if let Err(fault) = lay_down(&mut memory, prices) {
-        return Err(anyhow!(format!(in heap; "the records were not laid down: {fault}")?));
-    }
+    lay_down(&mut memory, prices).context("the records were not laid down")?;
     println!(rt; "Laid down {count} records of 128 bytes, the price at offset 8.")?;
     println!(rt; "A stride mapping over them, by its registers:")?;
     let Some(mapping) = set_up(rt, &[128, 0, 4, 128, 8])? else {
@@ -72,8 +63,8 @@ fn dense_line(rt: &HostRuntime, prices: &[u32]) -> anyhow::Result<()> {
 // Writes the registers from 0 on, arms the set, and says what each step answered.
 fn set_up(rt: &HostRuntime, values: &[u64]) -> anyhow::Result<Option<Stride>> {
     let mut set = RegisterSet::<Stride>::new();
-    for (number, value) in values.iter().enumerate() {
-        match set.write(number as u64, *value) {
+    for (number, value) in (0..).zip(values) {
+        match set.write(number, *value) {
             Ok(()) => println!(rt; "  register {number} takes {value}")?,
             Err(refusal) => println!(rt; "  register {number} does not take {value}: {refusal}")?,
         }
@@ -88,8 +79,7 @@ fn set_up(rt: &HostRuntime, values: &[u64]) -> anyhow::Result<Option<Stride>> {
             println!(rt; "  armed: type {number}, image {image}, grain {grain}, extent {extent}")?;
             Ok(Some(mapping))
         }
-        Err(refused) => {
-            let (refusal, _) = refused;
+        Err((refusal, _)) => {
             println!(rt; "  not armed: {refusal}")?;
             Ok(None)
         }

@@ -6,6 +6,7 @@ ghost use Rattle.prices.specs.Prices.{capped, lines, price, line_read, Told, pri
 ghost use Rattle.prices.specs.declared.InputError.TheVariants.{NoMemory};
 
 use std::alloc::{AllocFailed, Global};
+use std::error::Error;
 use std::fmt;
 
 // The most prices in one list.
@@ -42,6 +43,8 @@ pub fn parse(heap: Global, text: &[u8]) -> Result<Vec<u32>, InputError>
     }
     Ok(list)
 }
+
+impl Error for InputError {}
 
 impl fmt::Display for InputError {
     fn fmt<W: fmt::Write>(&self, f: &mut fmt::Formatter<W>) -> fmt::Result {

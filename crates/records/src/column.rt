@@ -5,7 +5,7 @@ ghost use Rattle.records.specs.Column.{laying, laid, surveyed, totalled, readabl
 use crate::price::{read_price, record_of};
 use memory::contract::Memory;
 use memory::fault::Fault;
-use memory::run::LINE;
+use units::LINE;
 use std::alloc::{AllocError, Global};
 
 // A price as it was read, or the fault that the read was refused with.

@@ -5,7 +5,7 @@ ghost use Rattle.records.specs.Record.{place, digits, record_of, priced};
 
 use memory::contract::Memory;
 use memory::fault::Fault;
-use memory::run::LINE;
+use units::LINE;
 
 // Where the price stands in its record.
 const OFFSET: u64 = 8;
