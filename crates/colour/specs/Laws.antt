@@ -8,7 +8,7 @@ use Rattle.std.specs.Option.{option_map}
 use Rattle.mapping.specs.Rules.{image, divides, power}
 use Rattle.mapping.proofs.Laws.{Armed, Addressed}
 use Rattle.mapping.proofs.Multiples.{times_multiple, multiple_trans, multiple_room, skip_multiple, quotient_below, rows_apart, split_apart}
-use Rattle.mapping.proofs.Powers.{power_divides, power_pow}
+use Rattle.units.proofs.Powers.{power_divides, power_pow}
 use Rattle.colour.specs.Colour.{address, extent, meets, way, size, offset, colour_rules}
 
 -- what the condition tells: way, colour and offset are whole lines, and whole ways fill the image

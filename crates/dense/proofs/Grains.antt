@@ -12,7 +12,7 @@ use Rattle.memory.proofs.Calls.{length_bytes, get_or_bytes, plain_byte}
 use Rattle.memory.proofs.Writes.{accepted_each}
 use Rattle.mapping.specs.Rules.{Layout, power}
 use Rattle.mapping.specs.Laws.{Lawful}
-use Rattle.mapping.proofs.Powers.{power_divides, power_pow}
+use Rattle.units.proofs.Powers.{power_divides, power_pow}
 use Rattle.mapping.proofs.Multiples.{times_multiple, skip_multiple, multiple_room}
 use Rattle.dense.specs.Dense.{fetched_at, piece, before, pieces, gathered, Dense}
 

@@ -3,7 +3,7 @@ use Rattle.std.specs.Prelude.{◌≡◌, ℕ, ◌*◌, List, refl}
 use Rattle.std.proofs.Math.Nat.{mul-mod_left}
 use Rattle.std.proofs.Common.{arith, lit≤}
 use Rattle.mapping.proofs.Laws.{Addressed}
-use Rattle.mapping.proofs.Powers.{power_pow}
+use Rattle.units.proofs.Powers.{power_pow}
 use Rattle.direct.specs.Direct.{direct_rules}
 
 pub addressed : (rs : List ℕ) → Addressed direct_rules rs

@@ -8,7 +8,7 @@ use Rattle.mapping.specs.Rules.{Rules, image, table, placed, layout, power, divi
 use Rattle.mapping.specs.Arming.{arms}
 use Rattle.mapping.specs.Laws.{Lawful}
 use Rattle.mapping.proofs.Multiples.{multiple_trans, multiple_room}
-use Rattle.mapping.proofs.Powers.{power_is, power_divides, power_pow}
+use Rattle.units.proofs.Powers.{power_is, power_divides, power_pow}
 
 -- what arming has tested
 pub record Armed (rules : Rules) (rs : List ℕ) : Type 0 where

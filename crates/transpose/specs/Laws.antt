@@ -7,7 +7,7 @@ use Rattle.std.proofs.lemmas.Bool.{and_parts, leb-true, eqb-true}
 use Rattle.mapping.specs.Rules.{image, divides, power}
 use Rattle.mapping.proofs.Laws.{Armed, Addressed}
 use Rattle.mapping.proofs.Multiples.{times_multiple, multiple_trans, multiple_room, skip_multiple, quotient_below, rows_apart, split_apart, row_below}
-use Rattle.mapping.proofs.Powers.{power_some}
+use Rattle.units.proofs.Powers.{power_some}
 use Rattle.mapping.specs.Element.{element}
 use Rattle.transpose.specs.Transpose.{address, extent, meets, size, row, rows, transpose_rules}
 use Rattle.mapping.proofs.Elements.{Sized, sized}
