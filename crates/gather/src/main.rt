@@ -2,15 +2,13 @@
 #![tactic(auto)]
 
 use anyhow::{Context, bail};
+use console::start;
 use dense::{gather, line_total, price_at};
 use mapping::contract::Mapping;
 use mapping::set::RegisterSet;
 use memory::contract::Memory;
 use plain::Plain;
-use prices::parse;
 use records::column::lay_down;
-use std::env;
-use std::io::Read;
 use std::process::ExitCode;
 use stride::stride::Stride;
 
@@ -20,23 +18,15 @@ const PRICES: usize = 32;
 // Bytes of a record.
 const RECORD: usize = 128;
 
-// What goes wrong is said once, after the program's name, and is status 1.
-fn main(rt: HostRuntime) -> anyhow::Result<ExitCode> {
-    if let Err(error) = run(&rt) {
-        eprintln!(rt; "gather: {error:#}")?;
-        return Ok(ExitCode::FAILURE);
-    }
-    Ok(ExitCode::SUCCESS)
-}
+// What any argument prints.
+const HELP: &str = "\
+usage: gather < PRICES\n\
+PRICES has one price to a line: cents in decimal, below 4294967296; 32 to 1024 lines.\n\
+The program lays the prices down as records, sets up a stride mapping by registers, and gathers\n\
+the first 32 prices into one dense line. It also shows three set-ups that are refused.";
 
-fn run(rt: &HostRuntime) -> anyhow::Result<()> {
-    if env::args(rt)?.count() > 1 {
-        return show_help(rt);
-    }
-    let heap = rt.alloc();
-    let mut text = Vec::new(heap);
-    rt.stdin().read_to_end(&mut text)?;
-    dense_line(rt, &parse(heap, &text)?)
+fn main(rt: HostRuntime) -> anyhow::Result<ExitCode> {
+    start(&rt, "gather", HELP, |prices| dense_line(&rt, prices))
 }
 
 // Keeps the prices as records, and shows the first 32 of them as one line.
@@ -109,19 +99,5 @@ fn show_refusals(rt: &HostRuntime) -> anyhow::Result<()> {
     let _ = set_up(rt, &[128, 0, 4, 256, 126])?;
     println!(rt; "An image of 536871040 bytes, a line from each page, reaches too far:")?;
     let _ = set_up(rt, &[536_871_040, 0, 128, 4096, 3968])?;
-    Ok(())
-}
-
-fn show_help(rt: &HostRuntime) -> anyhow::Result<()> {
-    println!(rt; "usage: gather < PRICES")?;
-    println!(rt;
-        "PRICES has one price to a line: cents in decimal, below 4294967296; 32 to 1024 lines."
-    )?;
-    println!(rt;
-        "The program lays the prices down as records, sets up a stride mapping by registers, and gathers"
-    )?;
-    println!(rt;
-        "the first 32 prices into one dense line. It also shows three set-ups that are refused."
-    )?;
     Ok(())
 }

@@ -4,34 +4,24 @@
 use anyhow::Context;
 use checked::chip::flip;
 use checked::{Checked, STRIDE};
+use console::start;
 use memory::contract::Memory;
-use prices::parse;
 use records::column::{Reading, lay_down, readable, survey, total};
 use records::price::write_price;
-use std::env;
-use std::io::Read;
 use std::process::ExitCode;
 
 // The lowest byte of the price in the first record.
 const CENTS: usize = 11;
 
-// What goes wrong is said once, after the program's name, and is status 1.
-fn main(rt: HostRuntime) -> anyhow::Result<ExitCode> {
-    if let Err(error) = run(&rt) {
-        eprintln!(rt; "invoice: {error:#}")?;
-        return Ok(ExitCode::FAILURE);
-    }
-    Ok(ExitCode::SUCCESS)
-}
+// What any argument prints.
+const HELP: &str = "\
+usage: invoice < PRICES\n\
+PRICES has one price to a line: cents in decimal, below 4294967296; 1 to 1024 lines.\n\
+The program lays the prices down as records in checked memory, reads them back,\n\
+corrects one, and shows what a flipped bit does.";
 
-fn run(rt: &HostRuntime) -> anyhow::Result<()> {
-    if env::args(rt)?.count() > 1 {
-        return show_help(rt);
-    }
-    let heap = rt.alloc();
-    let mut text = Vec::new(heap);
-    rt.stdin().read_to_end(&mut text)?;
-    invoice(rt, &parse(heap, &text)?)
+fn main(rt: HostRuntime) -> anyhow::Result<ExitCode> {
+    start(&rt, "invoice", HELP, |prices| invoice(&rt, prices))
 }
 
 // The whole run, over bytes for just these records.
@@ -90,17 +80,5 @@ fn show_column(rt: &HostRuntime, readings: &[Reading]) -> anyhow::Result<()> {
             Err(fault) => println!(rt; "  record {index}: refused: {fault}")?,
         }
     }
-    Ok(())
-}
-
-fn show_help(rt: &HostRuntime) -> anyhow::Result<()> {
-    println!(rt; "usage: invoice < PRICES")?;
-    println!(rt;
-        "PRICES has one price to a line: cents in decimal, below 4294967296; 1 to 1024 lines."
-    )?;
-    println!(rt;
-        "The program lays the prices down as records in checked memory, reads them back,"
-    )?;
-    println!(rt; "corrects one, and shows what a flipped bit does.")?;
     Ok(())
 }
