@@ -1,46 +1,73 @@
--- Numbers digit by digit, held at 2^32. Assumes nothing.
-use Rattle.std.proofs.Common.{◌≡◌, ℕ, ◌+◌, ◌-◌, ◌*◌, ◌^◌, ◌<◌, ◌≤◌, min, true, false, cond, ◌&&◌, leb, List, [], ◌∷◌, length, get_or, drop, Some, None, sym, refl, ap, ◌∙◌, arith}
+-- Numbers digit by digit. Assumes nothing.
+use Rattle.std.proofs.Common.{◌≡◌, ℕ, ◌+◌, ◌-◌, ◌*◌, ◌^◌, ◌<◌, ◌≤◌, nat_lt, true, false, cond}
+use Rattle.std.proofs.Common.{List, [], ◌∷◌, length, get_or, drop, Some, None, Ok, Err, refl, ◌∙◌, ap, arith}
 use Rattle.std.proofs.lemmas.List.{at_drop_more, at_drop_all}
-use Rattle.std.proofs.lemmas.Bool.{cond-true, cond-false, and_from, and_left, and_right, le-leb, lt-leb}
-use Rattle.prices.specs.Prices.{numeral, price, capped}
+use Rattle.std.proofs.lemmas.List.Elements.{All-head, All-tail, All-cons}
+use Rattle.std.proofs.lemmas.Grind.{common_steps}
+use Rattle.std.specs.Char.{is_ascii_digit}
+use Rattle.std.specs.List.{AllPass}
+use Rattle.std.specs.Option.{ok_or}
+use Rattle.prices.specs.declared.InputError.TheVariants.{TooLarge}
+use Rattle.prices.specs.Prices.{numeral, price, judged, fitting}
 
--- what is held back does not matter to what is held
-pub capped_numeral : (n m : ℕ) (bs : List ℕ) → min n (2 ^ 32) ≡ min m (2 ^ 32) → capped (numeral n bs) ≡ capped (numeral m bs)
+-- the number that is said after the digit b
+abbrev pub then : ℕ → ℕ → ℕ
+then n b = n * 10 + (b - 48)
+
+pub numeral_more : (bs : List ℕ) (i n : ℕ) → i < length bs → is_ascii_digit (get_or bs i 0) ≡ true
+    → numeral n (drop i bs) ≡ numeral (then n (get_or bs i 0)) (drop (i + 1) bs)
 unfolding numeral
-capped_numeral n m [] e = ap Some e
-capped_numeral n m (b ∷ bs) e =
-    elim (leb 48 b && leb b 57) as (λ t. capped (cond t (numeral (n * 10 + (b - 48)) bs) None) ≡ capped (cond t (numeral (m * 10 + (b - 48)) bs) None)) [
-      | true ↦ capped_numeral (n * 10 + (b - 48)) (m * 10 + (b - 48)) bs (omega arith)
+numeral_more bs i n low digit =
+    at_drop_more (numeral n) bs i 0 low ∙ ap (λ t. cond t (numeral (then n (get_or bs i 0)) (drop (i + 1) bs)) None) digit
+
+pub numeral_all : (bs : List ℕ) (i n : ℕ) → length bs ≤ i → numeral n (drop i bs) ≡ Some n
+unfolding numeral
+numeral_all bs i n past = at_drop_all (numeral n) bs i past
+
+-- what is too large stays too large
+pub fitting_large : (n : ℕ) (bs : List ℕ) → 2 ^ 32 ≤ n → fitting (numeral n bs) ≡ None
+unfolding numeral
+fitting_large n [] large = grind (arith, common_steps)
+fitting_large n (b ∷ bs) large =
+    elim (is_ascii_digit b) as (λ t. fitting (cond t (numeral (then n b) bs) None) ≡ None) [
+      | true ↦ fitting_large (then n b) bs (omega arith)
       | false ↦ refl
     ]
 
--- the digit b stands at i
-module _ (line : List ℕ) (i n : ℕ) (low : i < length line) where
-  numeral_step : numeral n (drop i line) ≡ cond (leb 48 (get_or line i 0) && leb (get_or line i 0) 57) (numeral (n * 10 + (get_or line i 0 - 48)) (drop (i + 1) line)) None
-  unfolding numeral
-  numeral_step = at_drop_more (numeral n) line i 0 low
+-- reading digits
+pub ruleset digits = (numeral_more, numeral_all, fitting_large)
 
-  pub numeral_more : 48 ≤ get_or line i 0 → get_or line i 0 ≤ 57 → capped (numeral (min (n * 10 + (get_or line i 0 - 48)) (2 ^ 32)) (drop (i + 1) line)) ≡ capped (numeral n (drop i line))
-  numeral_more above below =
-      capped_numeral (min (n * 10 + (get_or line i 0 - 48)) (2 ^ 32)) (n * 10 + (get_or line i 0 - 48)) (drop (i + 1) line) (omega arith)
-      ∙ ap capped (sym (numeral_step ∙ cond-true _ _ _ (and_from _ _ (le-leb 48 (get_or line i 0) above) (le-leb (get_or line i 0) 57 below))))
-
-  pub numeral_low : get_or line i 0 < 48 → numeral n (drop i line) ≡ None
-  numeral_low below = numeral_step ∙ cond-false _ _ _ (and_left _ _ (lt-leb 48 (get_or line i 0) below))
-
-  pub numeral_high : 57 < get_or line i 0 → numeral n (drop i line) ≡ None
-  numeral_high above = numeral_step ∙ cond-false _ _ _ (and_right _ _ (lt-leb (get_or line i 0) 57 above))
-
-pub numeral_all : (line : List ℕ) (i n : ℕ) → length line ≤ i → numeral n (drop i line) ≡ Some n
+numeral_none : (n : ℕ) (bs : List ℕ) → (AllPass is_ascii_digit bs → ⊥) → numeral n bs ≡ None
 unfolding numeral
-numeral_all line i n past = at_drop_all (numeral n) line i past
+numeral_none n [] bad = absurd (bad (λ k d low. absurd (omega arith)))
+numeral_none n (b ∷ bs) bad =
+    elim (is_ascii_digit b) as (λ t. is_ascii_digit b ≡ t → cond t (numeral (then n b) bs) None ≡ None) [
+      | true ↦ λ digit. numeral_none (then n b) bs (λ all. bad (All-cons (λ b. is_ascii_digit b ≡ true) b bs digit all))
+      | false ↦ λ _. refl
+    ] refl
 
-pub price_some : (line : List ℕ) → 0 < length line → price line ≡ numeral 0 line
+pub price_none : (line : List ℕ) → ((0 < length line) × AllPass is_ascii_digit line → ⊥) → price line ≡ None
 unfolding price
-price_some [] some = absurd (omega arith)
-price_some (b ∷ bs) some = refl
+price_none [] bad = refl
+price_none (b ∷ bs) bad = numeral_none 0 (b ∷ bs) (λ all. bad (omega arith, all))
 
-pub price_none : (line : List ℕ) → length line ≡ 0 → price line ≡ None
+judged_numeral : (k n : ℕ) (bs : List ℕ) → AllPass is_ascii_digit bs
+    → judged k (numeral n bs) ≡ ok_or (fitting (numeral n bs)) (TooLarge k)
+unfolding numeral
+judged_numeral k n [] all =
+    elim (nat_lt n (2 ^ 32)) as (λ t. cond t (Ok n) (Err (TooLarge k)) ≡ ok_or (cond t (Some n) None) (TooLarge k)) [
+      | true ↦ refl
+      | false ↦ refl
+    ]
+judged_numeral k n (b ∷ bs) all =
+    let digit : ℕ → Type 0 = λ b. is_ascii_digit b ≡ true in
+    rw (All-head digit b bs all) (judged_numeral k (then n b) bs (All-tail digit b bs all))
+
+pub judged_price : (k : ℕ) (line : List ℕ) → (0 < length line) × AllPass is_ascii_digit line
+    → judged k (price line) ≡ ok_or (fitting (numeral 0 line)) (TooLarge k)
 unfolding price
-price_none [] none = refl
-price_none (b ∷ bs) none = absurd (omega arith)
+judged_price k [] all = absurd (omega arith)
+judged_price k (b ∷ bs) all = judged_numeral k 0 (b ∷ bs) all.1
+
+-- judging a line
+pub ruleset judging = (price_none, judged_price)

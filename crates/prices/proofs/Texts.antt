@@ -1,47 +1,81 @@
 -- The lines of a text, and the prices on them, one after the other. Assumes nothing.
-use Rattle.std.proofs.Common.{◌≡◌, ℕ, zero, suc, ◌+◌, ◌-◌, ◌<◌, ◌≤◌, eqb, ◌⊎◌, List, [], ◌∷◌, ◌++◌, length, get_or, take, drop, Ok, Err, Result, sym, refl, ap, ◌∙◌, inl, inr, ⊎_elim, arith}
-use Rattle.std.proofs.lemmas.List.{append-nil, append_assoc, drop_all, drop-drop, get_or-drop, length-drop}
-use Rattle.std.proofs.lemmas.Bool.{cond-true, cond-false, eq-eqb, ne_eqb}
+use Rattle.std.proofs.Common.{◌≡◌, ℕ, suc, ◌+◌, ◌<◌, ◌≤◌, ◌==◌, false, min, subst, length-append, ◌≢◌, Bor, Option, Some, None, List, [], ◌∷◌, ◌++◌, length, get_or, take, Ok, Err, Result, sym, refl, ap, ◌∙◌, ⊎_elim, arith}
+use Rattle.std.proofs.lemmas.List.{append-nil, append_assoc, get_or_append_left, nil_from_length, take_all}
+use Rattle.std.proofs.Math.Seq.{take-suc}
+use Rattle.std.proofs.lemmas.List.Elements.{All-head, All-tail}
+use Rattle.std.specs.Option.{MatchOption, unwrap_or}
+use Rattle.std.specs.List.{All, onto_first, IsFirstMatchOrLen}
+use Rattle.std.proofs.lemmas.Bool.{eqb-true, cases_lt}
+use Rattle.std.proofs.lemmas.Grind.{common_steps}
 use Rattle.prices.specs.declared.InputError.{InputError}
-use Rattle.prices.specs.declared.InputError.TheVariants.{NoPrices, NotANumber, TooLarge, TooMany, NoMemory}
-use Rattle.prices.specs.Prices.{begun, lines, line_read, with_price, prices_from, prices, Told}
+use Rattle.prices.specs.declared.InputError.TheVariants.{NoPrices, NoMemory}
+use Rattle.prices.specs.Prices.{lines, line_read, with_price, prices_from, prices, Told}
 
--- the first line has n bytes
-Ends : List ℕ → ℕ → Type 0
-Ends xs n = (n ≡ length xs) ⊎ ((n < length xs) × (get_or xs n 0 ≡ 10))
+abbrev NoFeed : ℕ → Type 0
+NoFeed b = (b == 10) ≡ false
 
-first_of : (xs : List ℕ) (n : ℕ) → ((k : ℕ) → k < n → get_or xs k 0 ≡ 10 → ⊥) → Ends xs n → 0 < length xs → lines xs ≡ take n xs ∷ lines (drop (suc n) xs)
-unfolding lines Ends
-first_of [] n none end some = absurd (omega arith)
-first_of (b ∷ bs) zero none (inl e) some = absurd (omega arith)
-first_of (b ∷ bs) zero none (inr e) some = cond-true (eqb b 10) _ _ (eq-eqb b 10 e.1)
-first_of (b ∷ []) (suc n) none end some =
-    let here : n ≡ 0 = ⊎_elim (λ e. omega arith) (λ e. omega arith) end in
-    rw here (cond-false (eqb b 10) _ _ (ne_eqb b 10 (none 0 (omega arith))))
-first_of (b ∷ c ∷ bs) (suc n) none end some =
-    cond-false (eqb b 10) _ _ (ne_eqb b 10 (none 0 (omega arith)))
-    ∙ ap (begun b) (first_of (c ∷ bs) n (λ k low. none (suc k) (omega arith)) (⊎_elim (λ e. inl (omega arith)) (λ e. inr (omega arith, e.1)) end) (omega arith))
+lines_ended : (line rest : List ℕ) → All NoFeed line → lines (line ++ 10 ∷ rest) ≡ line ∷ lines rest
+unfolding lines
+lines_ended [] rest none = refl
+lines_ended (b ∷ bs) rest none =
+    rw (All-head NoFeed b bs none) (ap (onto_first b) (lines_ended bs rest (All-tail NoFeed b bs none)))
 
--- the line that begins at from, up to r
-pub first_line : (text : List ℕ) (from r : ℕ) → from < length text → from ≤ r → ((k : ℕ) → from ≤ k → k < r → get_or text k 0 ≡ 10 → ⊥) → (r ≡ length text) ⊎ ((r < length text) × (get_or text r 0 ≡ 10)) → lines (drop from text) ≡ take (r - from) (drop from text) ∷ lines (drop (r + 1) text)
-unfolding Ends
-first_line text from r low after none end =
-    let n : ℕ = r - from in
-    let long : length (drop from text) ≡ length text - from = length-drop from text in
-    let at : (k : ℕ) → get_or (drop from text) k 0 ≡ get_or text (from + k) 0 = λ k. get_or-drop from text k 0 in
-    let last : from + n ≡ r = omega arith in
-    first_of (drop from text) n
-    (λ k below e. none (from + k) (omega arith) (omega arith) (sym (at k) ∙ e))
-    (⊎_elim (λ e. inl (omega arith)) (λ e. inr (omega arith, at n ∙ ap (λ k. get_or text k 0) last ∙ e.1)) end)
-    (omega arith)
-    ∙ ap (λ rest. take n (drop from text) ∷ lines rest) (drop-drop (suc n) from text ∙ ap (λ k. drop k text) (omega arith))
+lines_open : (line : List ℕ) → 0 < length line → All NoFeed line → lines line ≡ line ∷ []
+unfolding lines
+lines_open [] some none = absurd (omega arith)
+lines_open (b ∷ []) some none = rw (All-head NoFeed b [] none) refl
+lines_open (b ∷ c ∷ bs) some none =
+    rw (All-head NoFeed b (c ∷ bs) none) (ap (onto_first b) (lines_open (c ∷ bs) (omega arith) (All-tail NoFeed b (c ∷ bs) none)))
+
+-- part is what `split_inclusive` cuts off first: it ends after the first line feed, or is all there is
+module _ {text : List ℕ} (part : Bor (List ℕ)) (rest : List ℕ) {i : ℕ} (whole : text ≡ part.now ++ rest)
+    (len : length part.now ≡ min (i + 1) (length text)) (first : IsFirstMatchOrLen (λ b. b == 10) text i) (some : 0 < length text) where
+  none_in : (line more : List ℕ) → text ≡ line ++ more → length line ≤ i → All NoFeed line
+  none_in line more e short k d low =
+      subst NoFeed (ap (λ xs. get_or xs k d) e ∙ get_or_append_left line more d k low) (first.0 k d (omega arith) (omega arith))
+
+  ended : (line : List ℕ) → part.now ≡ line ++ 10 ∷ [] → lines text ≡ line ∷ lines rest
+  ended line e =
+      let all : text ≡ line ++ 10 ∷ rest = whole ∙ ap (λ xs. xs ++ rest) e ∙ append_assoc line (10 ∷ []) rest in
+      let short : length line ≤ i = omega (arith, ap length e, length-append line (10 ∷ [])) in
+      ap lines all ∙ lines_ended line rest (none_in line (10 ∷ rest) all short)
+
+  feed_last : i < length text → part.now ≡ take i part.now ++ 10 ∷ []
+  feed_last low =
+      let at : get_or part.now i 0 ≡ get_or text i 0 =
+      sym (ap (λ xs. get_or xs i 0) whole ∙ get_or_append_left part.now rest 0 i (omega arith)) in
+      sym (take_all (suc i) part.now (omega arith))
+      ∙ take-suc part.now i 0 (omega arith)
+      ∙ ap (λ b. take i part.now ++ b ∷ []) (at ∙ eqb-true _ _ (first.1 low 0))
+
+  unended : ((line : List ℕ) → part.now ≢ line ++ 10 ∷ []) → lines text ≡ part.now ∷ lines rest
+  unfolding lines
+  unended open_end =
+      let past : length text ≤ i =
+      ⊎_elim (λ low. absurd (open_end (take i part.now) (feed_last low))) (λ past. past) (cases_lt i (length text)) in
+      let none : rest ≡ [] = nil_from_length rest (omega (arith, ap length whole, length-append part.now rest)) in
+      let all : text ≡ part.now = whole ∙ ap (λ xs. part.now ++ xs) none ∙ append-nil part.now in
+      let size = ap length all in
+      ap lines all
+      ∙ lines_open part.now (omega (arith, size)) (none_in part.now rest whole (omega (arith, size)))
+      ∙ ap (λ xs. part.now ∷ lines xs) (sym none)
+
+  -- line is what `strip_suffix` and `unwrap_or` make of the part
+  pub first_price : (k : ℕ) (o : Option (Bor (List ℕ))) (line : Bor (List ℕ))
+      → MatchOption o ((front : List ℕ) → part.now ≢ front ++ 10 ∷ []) (λ x. part.now ≡ x.now ++ 10 ∷ [])
+      → line ≡ unwrap_or o part
+      → prices_from k (lines text) ≡ with_price (line_read k line.now) (prices_from (k + 1) (lines rest))
+  unfolding prices_from
+  first_price k None line none e = ap (prices_from k) (unended none ∙ ap (λ l. l.now ∷ lines rest) (sym e))
+  first_price k (Some x) line one e = ap (prices_from k) (ended x.now one ∙ ap (λ l. l.now ∷ lines rest) (sym e))
 
 -- the prices so far, before those of the rest
 abbrev pub before : List ℕ → Result (List ℕ) InputError → Result (List ℕ) InputError
 before ns (Ok rest) = Ok (ns ++ rest)
 before ns (Err e) = Err e
 
-before_push : (ns : List ℕ) (n : ℕ) (r : Result (List ℕ) InputError) → before (ns ++ n ∷ []) r ≡ before ns (with_price (Ok n) r)
+pub before_push : (ns : List ℕ) (n : ℕ) (r : Result (List ℕ) InputError)
+    → before (ns ++ n ∷ []) r ≡ before ns (with_price (Ok n) r)
 before_push ns n (Ok rest) = ap Ok (append_assoc ns (n ∷ []) rest)
 before_push ns n (Err e) = refl
 
@@ -59,26 +93,17 @@ unfolding prices
 prices_none [] none = refl
 prices_none (b ∷ bs) none = absurd (omega arith)
 
--- one line of the rest
-module _ (ns : List ℕ) (k : ℕ) {ls : List (List ℕ)} {line : List ℕ} {rest : List (List ℕ)} (first : ls ≡ line ∷ rest) where
-  step : prices_from k ls ≡ with_price (line_read k line) (prices_from (k + 1) rest)
-  unfolding prices_from
-  step = ap (prices_from k) first
-
-  pub line_more : (n : ℕ) → line_read k line ≡ Ok n → before (ns ++ n ∷ []) (prices_from (k + 1) rest) ≡ before ns (prices_from k ls)
-  line_more n e =
-      before_push ns n (prices_from (k + 1) rest) ∙ ap (before ns) (sym (step ∙ ap (λ r. with_price r (prices_from (k + 1) rest)) e))
-
-  pub line_bad : (e : InputError) → line_read k line ≡ Err e → before ns (prices_from k ls) ≡ Err e
-  line_bad e bad = ap (before ns) (step ∙ ap (λ r. with_price r (prices_from (k + 1) rest)) bad)
-
-pub lines_all : (ns : List ℕ) (k : ℕ) (text : List ℕ) (from : ℕ) → length text ≤ from → before ns (prices_from k (lines (drop from text))) ≡ Ok ns
+pub lines_none : (ns : List ℕ) (k : ℕ) (text : List ℕ) → length text ≡ 0 → before ns (prices_from k (lines text)) ≡ Ok ns
 unfolding lines prices_from
-lines_all ns k text from past = ap (λ t. before ns (prices_from k (lines t))) (drop_all from text past) ∙ ap Ok (append-nil ns)
+lines_none ns k text none =
+    ap (λ t. before ns (prices_from k (lines t))) (nil_from_length text none) ∙ ap Ok (append-nil ns)
+
+-- where the text begins and ends
+pub ruleset ends = (prices_none, prices_some, before_none, lines_none)
+
+pub read_most : (k : ℕ) (line : List ℕ) (n : ℕ) → line_read k line ≡ Ok n → k ≤ 1024
+read_most k line n e = grind (arith, common_steps)
 
 pub told : (e : InputError) (p : Result (List ℕ) InputError) → p ≡ Err e → Told e p
-told NoPrices p is = is
-told (NotANumber k) p is = is
-told (TooLarge k) p is = is
-told (TooMany k) p is = is
 told NoMemory p is = tt
+told e p is = is

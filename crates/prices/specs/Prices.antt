@@ -5,30 +5,28 @@
 -- line_read k line: the price on the line of the number k, or what is wrong there
 -- prices text: all prices, in order, or what is wrong on the first bad line
 -- Told e p: p is the refusal e, unless e says that memory was wanting
-use Rattle.std.specs.Prelude.{◌≡◌, ℕ, ◌+◌, ◌-◌, ◌*◌, ◌^◌, min, cond, ◌&&◌, List, [], ◌∷◌, Some, None, Ok, Err, Option, Result, ◌==◌, nat_le, nat_lt}
-use Rattle.std.specs.Option.{option_map}
+use Rattle.std.specs.Prelude.{◌≡◌, ℕ, ◌+◌, ◌-◌, ◌*◌, ◌^◌, cond, List, [], ◌∷◌, Some, None, Ok, Err, Option, Result, ◌==◌, nat_lt}
+use Rattle.std.specs.Char.{is_ascii_digit}
+use Rattle.std.specs.List.{onto_first}
 use Rattle.prices.specs.declared.InputError.{InputError}
 use Rattle.prices.specs.declared.InputError.TheVariants.{NoPrices, NotANumber, TooLarge, TooMany, NoMemory}
 
--- a byte before the lines of the rest of a text
-abbrev pub begun : ℕ → List (List ℕ) → List (List ℕ)
-begun b [] = (b ∷ []) ∷ []
-begun b (l ∷ ls) = (b ∷ l) ∷ ls
-
 unfoldable pub lines : List ℕ → List (List ℕ)
 lines [] = []
-lines (b ∷ bs) = cond (b == 10) ([] ∷ lines bs) (begun b (lines bs))
+lines (b ∷ bs) = cond (b == 10) ([] ∷ lines bs) (onto_first b (lines bs))
 
 unfoldable pub numeral : ℕ → List ℕ → Option ℕ
 numeral n [] = Some n
-numeral n (b ∷ bs) = cond (nat_le 48 b && nat_le b 57) (numeral (n * 10 + (b - 48)) bs) None
+numeral n (b ∷ bs) = cond (is_ascii_digit b) (numeral (n * 10 + (b - 48)) bs) None
 
 unfoldable pub price : List ℕ → Option ℕ
 price [] = None
 price (b ∷ bs) = numeral 0 (b ∷ bs)
 
-abbrev pub capped : Option ℕ → Option ℕ
-capped n = option_map (λ x. min x (2 ^ 32)) n
+-- the number where it has 32 bits at most
+abbrev pub fitting : Option ℕ → Option ℕ
+fitting None = None
+fitting (Some n) = cond (nat_lt n (2 ^ 32)) (Some n) None
 
 -- a number that is no price is too large
 abbrev pub judged : ℕ → Option ℕ → Result ℕ InputError
@@ -52,8 +50,5 @@ prices [] = Err NoPrices
 prices (b ∷ bs) = prices_from 1 (lines (b ∷ bs))
 
 abbrev pub Told : InputError → Result (List ℕ) InputError → Type 0
-Told NoPrices p = p ≡ Err NoPrices
-Told (NotANumber k) p = p ≡ Err (NotANumber k)
-Told (TooLarge k) p = p ≡ Err (TooLarge k)
-Told (TooMany k) p = p ≡ Err (TooMany k)
 Told NoMemory p = Unit {0}
+Told e p = p ≡ Err e

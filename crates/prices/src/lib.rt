@@ -1,8 +1,10 @@
 // A list of prices as text: decimal, in cents, one to a line.
 #![tactic(auto)]
 
-ghost use Rattle.std.specs.Prelude.{◌≡◌, ◌+◌, ◌-◌, ◌<◌, ◌≤◌, ◌∷◌, length, take, drop, Ok, MatchResult};
-ghost use Rattle.prices.specs.Prices.{capped, lines, price, line_read, Told, prices};
+ghost use Rattle.std.specs.Prelude.{◌≡◌, ◌<◌, ◌↔◌, length, IsTrue, Ok, MatchResult};
+ghost use Rattle.std.specs.List.{AllPass};
+ghost use Rattle.std.specs.Char.{is_ascii_digit};
+ghost use Rattle.prices.specs.Prices.{numeral, fitting, line_read, prices, Told};
 ghost use Rattle.prices.specs.declared.InputError.TheVariants.{NoMemory};
 
 use std::alloc::{AllocFailed, Global};
@@ -11,9 +13,6 @@ use std::fmt;
 
 // The most prices in one list.
 pub const MOST: usize = 1024;
-
-// The first number that is too large for a price.
-const LIMIT: u64 = 4_294_967_296;
 
 // What is wrong with a list, and on which line, counted from 1.
 #[derive(Clone, Copy, PartialEq, Eq, Debug)]
@@ -26,6 +25,7 @@ pub enum InputError {
 }
 
 // The prices of the list, in order, or what is wrong on its first bad line.
+#[tactic(auto, using(crate::proofs::Texts::ends))]
 pub fn parse(heap: Global, text: &[u8]) -> Result<Vec<u32>, InputError>
     ensures { MatchResult result (λ v. prices text.now ≡ Ok v.items) (λ e. Told e (prices text.now)) }
 {
@@ -33,18 +33,12 @@ pub fn parse(heap: Global, text: &[u8]) -> Result<Vec<u32>, InputError>
         return Err(InputError::NoPrices);
     }
     let mut list = Vec::new(heap);
-    let mut from = 0;
-    let mut number = 1;
-    while from < text.len() {
-        let end = line_end(text, from);
-        list.push(read_line(number, &text[from..end])?)?;
-        from = end + 1;
-        number += 1;
+    for (number, part) in (1..).zip(text.split_inclusive(|byte| *byte == b'\n')) {
+        let line = part.strip_suffix(b"\n").unwrap_or(part);
+        list.push(read_line(number, line)?)?;
     }
     Ok(list)
 }
-
-impl Error for InputError {}
 
 impl fmt::Display for InputError {
     fn fmt<W: fmt::Write>(&self, f: &mut fmt::Formatter<W>) -> fmt::Result {
@@ -52,11 +46,16 @@ impl fmt::Display for InputError {
             InputError::NoPrices => write!(f, "line 1: there is no price at all"),
             InputError::NotANumber(line) => write!(f, "line {line}: this is no decimal number"),
             InputError::TooLarge(line) => write!(f, "line {line}: the price is 4294967296 or more"),
-            InputError::TooMany(line) => write!(f, "line {line}: there are more than 1024 prices"),
+            InputError::TooMany(line) => write!(
+                f,
+                "line {line}: there are more than {MOST} prices"
+            ),
             InputError::NoMemory => write!(f, "there is not enough memory for the list"),
         }
     }
 }
+
+impl Error for InputError {}
 
 impl<T: Drop> From<AllocFailed<T>> for InputError {
     ghost from_gives = { λ _ r. r ≡ NoMemory };
@@ -66,52 +65,38 @@ impl<T: Drop> From<AllocFailed<T>> for InputError {
     }
 }
 
-// Where the line that begins at `from` ends: at its line feed, or at the end of the text.
-fn line_end(text: &[u8], from: usize) -> usize
-    requires { from < length text.now }
-    ensures low { from ≤ result }
-    ensures high { result ≤ length text.now }
-    ensures first { lines (drop from text.now) ≡ take (result - from) (drop from text.now) ∷ lines (drop (result + 1) text.now) }
-{
-    for at in from..text.len() {
-        if text[at] == b'\n' {
-            return at;
-        }
-    }
-    text.len()
-}
-
 // The price on the line of this number.
+#[tactic(auto, using(crate::proofs::Numbers::judging))]
 fn read_line(number: usize, line: &[u8]) -> Result<u32, InputError>
     ensures { result ≡ line_read number line.now }
 {
     if number > MOST {
         return Err(InputError::TooMany(number));
     }
-    match numeral(line) {
-        None => Err(InputError::NotANumber(number)),
-        Some(value) => {
-            if value >= LIMIT {
-                return Err(InputError::TooLarge(number));
-            }
-            Ok(value as u32)
-        }
+    if !is_number(line) {
+        return Err(InputError::NotANumber(number));
     }
+    value_of(line).ok_or(InputError::TooLarge(number))
 }
 
-// The number that the digits say, held at 2^32 where it is larger; nothing where the line is no number.
-fn numeral(line: &[u8]) -> Option<u64>
-    ensures { result ≡ capped (price line.now) }
+// Whether the line is one digit or more, and nothing else.
+fn is_number(line: &[u8]) -> bool
+    ensures { IsTrue result ↔ (0 < length line.now) × AllPass is_ascii_digit line.now }
 {
-    if line.is_empty() {
-        return None;
-    }
-    let mut value: u64 = 0;
-    for byte in line {
-        if *byte < b'0' || *byte > b'9' {
-            return None;
-        }
-        value = (value * 10 + (*byte - b'0') as u64).min(LIMIT);
+    !line.is_empty() && line.iter().all(u8::is_ascii_digit)
+}
+
+// The number that the digits say; nothing where it has more than 32 bits.
+#[tactic(auto, using(crate::proofs::Numbers::digits))]
+fn value_of(digits: &[u8]) -> Option<u32>
+    requires { AllPass is_ascii_digit digits.now }
+    ensures { result ≡ fitting (numeral 0 digits.now) }
+{
+    let mut value = 0u32;
+    for digit in digits {
+        value = value
+            .checked_mul(10)?
+            .checked_add(u32::from(*digit - b'0'))?;
     }
     Some(value)
 }

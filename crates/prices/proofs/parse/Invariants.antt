@@ -1,13 +1,13 @@
-use Rattle.std.proofs.Common.{◌≡◌, ◌+◌, ◌-◌, ◌≤◌, length, drop, vec_items}
+use Rattle.std.proofs.Common.{◌≡◌, ◌≤◌, vec_items}
+use Rattle.std.specs.Slice.Iter.{split_inclusive_rest}
+use Rattle.std.specs.Iterator.Adapters.{zip_first, zip_second}
 use Rattle.prices.specs.Prices.{lines, prices_from, prices}
 use Rattle.prices.proofs.Texts.{before}
 use Rattle.prices.proofs.parse.Given as goal
 
 -- The prices so far and those of the rest are those of the text.
-abbrev pub invariant-loop-from : goal.invariant-loop-from
-invariant-loop-from l =
-    (before (vec_items l.list) (prices_from l.number (lines (drop l.from l.text))) ≡ prices l.text)
-    × (l.number ≤ l.from + 1)
-
-abbrev pub decreases-loop-from : goal.decreases-loop-from
-decreases-loop-from l = length l.text - l.from
+abbrev pub invariant-loop-number : goal.invariant-loop-number
+invariant-loop-number l =
+    let number = (zip_first l.number-iterator).start in
+    let rest = split_inclusive_rest (zip_second l.number-iterator) in
+    (before (vec_items l.list) (prices_from number (lines rest)) ≡ prices l.text) × (number ≤ 1025)
