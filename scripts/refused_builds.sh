@@ -12,7 +12,7 @@ cp -R crates/units crates/mapping crates/stride "$work/crates/"
 cat >"$work/crates.txt" <<'LIST'
 units:
 mapping: units
-stride: mapping
+stride: units mapping
 LIST
 
 # program NAME MIDDLE: a crate that writes a set and arms it, with MIDDLE between arming and reading a place

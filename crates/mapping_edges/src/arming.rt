@@ -124,10 +124,9 @@ fn colours() -> Result<(), Fail> {
 
 #[test]
 fn mended() -> Result<(), Fail> {
-    let Err(refused) = set_of::<Stride>(&[128, 7, 4, 128, 125]).arm() else {
+    let Err((refusal, mut set)) = set_of::<Stride>(&[128, 7, 4, 128, 125]).arm() else {
         return Err(Fail::new("armed"));
     };
-    let (refusal, mut set) = refused;
     same(refusal.number(), 14)?;
     same(set.write(4, 124), Ok(()))?;
     let Ok(armed) = set.arm() else {

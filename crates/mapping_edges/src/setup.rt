@@ -20,10 +20,10 @@ pub(crate) fn set_of<M: Mapping>(values: &[u64]) -> RegisterSet<M> {
 
 // What arming a set with these values answers.
 pub(crate) fn armed<M: Mapping>(values: &[u64]) -> Result<(), ArmingRefusal> {
-    match set_of::<M>(values).arm() {
-        Ok(_) => Ok(()),
-        Err((refusal, _)) => Err(refusal),
-    }
+    set_of::<M>(values)
+        .arm()
+        .map(|_| ())
+        .map_err(|(refusal, _)| refusal)
 }
 
 // Where byte s of the image stands under these values.
