@@ -111,7 +111,7 @@ impl Addressing for ColourRegisters {
         let offset = self.offset.get();
         let way = self.way.get();
         let inner = s % way;
-        if inner < offset || inner >= offset + colour {
+        if !(offset..offset + colour).contains(&inner) {
             return None;
         }
         Some(PseudoVirtualAddress(s / way * colour + inner - offset))
