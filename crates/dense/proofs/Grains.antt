@@ -17,7 +17,7 @@ use Rattle.mapping.proofs.Multiples.{times_multiple, skip_multiple, multiple_roo
 use Rattle.dense.specs.Dense.{fetched_at, piece, before, pieces, gathered, Dense}
 
 moved : (p : Option ℕ) (o i v : ℕ) → options.option_map (λ w. w + o) p ≡ Some v → options.option_map (λ w. w + (o + i)) p ≡ Some (v + i)
-moved None o i v e = let z : ◌≡◌ {A = ℕ} 0 1 = cc in absurd (omega arith)
+moved None o i v e = absurd cc
 moved (Some w) o i v e = let same : w + o ≡ v = cc in ap Some (omega arith)
 
 -- the four bytes of a piece lie in one grain, so they follow one another
@@ -41,11 +41,11 @@ module _ (l : Layout) (laws : Lawful l) where
 
 read_ok : (m : Meaning) (v : ℕ) (p : List ℕ) (r : Result (Unit {0}) Fault) → results.result_map_both (λ _. bytes m.cell v 4) raised r ≡ Ok p → (r ≡ Ok tt) × (p ≡ bytes m.cell v 4)
 read_ok m v p (Ok u) e = (refl, cc)
-read_ok m v p (Err f) e = let z : ◌≡◌ {A = ℕ} 0 1 = cc in absurd (omega arith)
+read_ok m v p (Err f) e = absurd cc
 
 -- an accepted piece, taken apart
 fetched_ok : (m : Meaning) (s : ℕ) (at : Option ℕ) (p : List ℕ) → fetched_at m s at ≡ Ok p → (v : ℕ) × (at ≡ Some v) × (answer m v 4 ≡ Ok tt) × (p ≡ bytes m.cell v 4)
-fetched_ok m s None p e = let z : ◌≡◌ {A = ℕ} 0 1 = cc in absurd (omega arith)
+fetched_ok m s None p e = absurd cc
 fetched_ok m s (Some v) p e = let r = read_ok m v p (answer m v 4) e in (v, refl, r.0, r.1)
 
 pub length_piece : (l : Layout) (m : Meaning) (s : ℕ) (p : List ℕ) → piece l m s ≡ Ok p → length p ≡ 4
@@ -53,8 +53,8 @@ length_piece l m s p e = let f = fetched_ok m s (l.place s) p e in ap length f.3
 
 before_ok : (r s : Result (List ℕ) Fault) (line : List ℕ) → before r s ≡ Ok line → (p : List ℕ) × (q : List ℕ) × (r ≡ Ok p) × (s ≡ Ok q) × (line ≡ p ++ q)
 before_ok (Ok p) (Ok q) line e = (p, q, refl, refl, cc)
-before_ok (Ok p) (Err f) line e = let z : ◌≡◌ {A = ℕ} 0 1 = cc in absurd (omega arith)
-before_ok (Err f) s line e = let z : ◌≡◌ {A = ℕ} 0 1 = cc in absurd (omega arith)
+before_ok (Ok p) (Err f) line e = absurd cc
+before_ok (Err f) s line e = absurd cc
 
 -- n pieces from k on: how long they are, and what stands at each place
 abbrev Stands : Layout → Meaning → ℕ → List ℕ → ℕ → Type 0

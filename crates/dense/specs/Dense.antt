@@ -5,11 +5,13 @@
 -- price_at line k: the price at place k of a line of 32
 -- total_of line n: the total of the line's first n prices
 -- Dense l m line: each byte of the line is the byte of the cell where the layout places it
-use Rattle.std.specs.Prelude.{◌≡◌, ℕ, zero, suc, ◌+◌, ◌*◌, ◌<◌, cond, List, [], ◌++◌, length, Some, None, Ok, Err, Option, Result, nat_lt, slice_index}
+use Rattle.std.specs.Prelude.{◌≡◌, ℕ, zero, suc, ◌+◌, ◌*◌, ◌<◌, cond, List, [], ◌++◌, length, sum_by, Some, None, Ok, Err, Option, Result, nat_lt, slice_index}
+use Rattle.std.specs.List.{range_with_len}
 use Rattle.std.specs.Result.{result_map_both}
 use Rattle.memory.specs.declared.fault.Cause.TheVariants.{Blank}
 use Rattle.memory.specs.declared.fault.Fault.{Fault}
 use Rattle.memory.specs.Fault.{refusal, raised}
+use Rattle.units.specs.Word.{word_at}
 use Rattle.memory.specs.Meaning.{Meaning, byte}
 use Rattle.memory.specs.Calls.{answer, bytes}
 use Rattle.mapping.specs.Rules.{Layout}
@@ -44,12 +46,10 @@ pub record Dense (l : Layout) (m : Meaning) (line : List ℕ) : Type 0 where
   pub bytes : (i : ℕ) → i < 128 → (v : ℕ) × (l.place i ≡ Some v) × (m.cell v ≡ byte (slice_index line i))
 
 abbrev pub word : List ℕ → ℕ → ℕ
-word line k =
-    slice_index line (k * 4) * 16777216 + slice_index line (k * 4 + 1) * 65536 + slice_index line (k * 4 + 2) * 256 + slice_index line (k * 4 + 3)
+word line k = word_at line (k * 4)
 
 abbrev pub price_at : List ℕ → ℕ → Option ℕ
 price_at line k = cond (nat_lt k 32) (Some (word line k)) None
 
 unfoldable pub total_of : List ℕ → ℕ → ℕ
-total_of line zero = 0
-total_of line (suc n) = total_of line n + word line n
+total_of line n = sum_by (word line) (range_with_len 0 n)

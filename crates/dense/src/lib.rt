@@ -1,19 +1,16 @@
 // A dense line: 32 prices that a mapping gathers from the data in a memory.
 #![tactic(auto)]
 
-ghost use Rattle.std.specs.Prelude.{◌≡◌, ◌<◌, IfOk};
+ghost use Rattle.std.specs.Prelude.{◌≡◌, IfOk, length};
 ghost use Rattle.dense.specs.Dense.{piece, gathered, Dense, word, price_at, total_of};
 
 use mapping::address::{PseudoVirtualAddress, WindowAddress};
 use mapping::contract::Mapping;
 use memory::contract::Memory;
-use memory::fault::{Cause, Fault};
+use memory::fault::{self, Cause, Fault};
 
 // Bytes of a price, and the least grain of a mapping, so that a price never leaves its grain.
 const PRICE: usize = 4;
-
-// Prices in a line.
-const PRICES: usize = 32;
 
 // The four bytes that stand behind the window address `s`: blank where the mapping gives nothing, and what the memory
 // refuses is passed up.
@@ -30,14 +27,13 @@ pub fn gather_price<M: Memory, P: Mapping>(
     let Some(PseudoVirtualAddress(v)) = mapping.place(s) else {
         return Err(Fault::here(Cause::Blank, s.0));
     };
-    let mut bytes = [0; 4];
-    match memory.read(v, &mut bytes) {
-        Ok(()) => Ok(bytes),
-        Err(fault) => Err(fault.raised()),
-    }
+    let mut bytes = [0; PRICE];
+    fault::from_below(memory.read(v, &mut bytes))?;
+    Ok(bytes)
 }
 
 // The first line of the image, or the first refusal on the way.
+#[tactic(auto, using(crate::proofs::Gathers::gathering_refused))]
 pub fn gather<M: Memory, P: Mapping>(memory: &mut M, mapping: &P) -> Result<[u8; 128], Fault>
     requires { M.Memory.coherent memory.old }
     ensures value { result ≡ gathered (P.Mapping.meaning mapping.now) (M.Memory.meaning memory.old) }
@@ -46,8 +42,8 @@ pub fn gather<M: Memory, P: Mapping>(memory: &mut M, mapping: &P) -> Result<[u8;
     ensures coherent { M.Memory.coherent memory.new }
 {
     let mut line = [0; 128];
-    for k in 0..PRICES {
-        let at = k * PRICE;
+    // By places, since no proof knows what writes through `chunks_exact_mut` leave in the line.
+    for at in (0..line.len()).step_by(PRICE) {
         let piece = gather_price(memory, mapping, WindowAddress(at as u64))?;
         line[at..at + PRICE].copy_from_slice(&piece);
     }
@@ -55,31 +51,26 @@ pub fn gather<M: Memory, P: Mapping>(memory: &mut M, mapping: &P) -> Result<[u8;
 }
 
 // The price at place `k` of a dense line; nothing past the last.
+#[tactic(auto, using(crate::proofs::Prices::word_part))]
 pub fn price_at(line: &[u8; 128], k: usize) -> Option<u32>
     ensures { result ≡ price_at line.now k }
 {
-    if k >= PRICES {
-        return None;
-    }
-    Some(word_at(line, k))
+    line.chunks_exact(PRICE).nth(k).map(number)
 }
 
 // The total of a dense line.
 pub fn line_total(line: &[u8; 128]) -> u64
     ensures { result ≡ total_of line.now 32 }
 {
-    let mut sum = 0;
-    for k in 0..PRICES {
-        sum += word_at(line, k) as u64;
-    }
-    sum
+    line.chunks_exact(PRICE)
+        .map(|price| u64::from(number(price)))
+        .sum()
 }
 
-// The number at place `k`, most significant byte first.
-fn word_at(line: &[u8; 128], k: usize) -> u32
-    requires { k < 32 }
-    ensures { result ≡ word line.now k }
+// The number that four bytes say, most significant first. There are four, so the `unwrap` never fails.
+fn number(bytes: &[u8]) -> u32
+    requires { length bytes.now ≡ 4 }
+    ensures { result ≡ word bytes.now 0 }
 {
-    let at = k * PRICE;
-    u32::from_be_bytes([line[at], line[at + 1], line[at + 2], line[at + 3]])
+    u32::from_be_bytes(*bytes.as_array().unwrap())
 }

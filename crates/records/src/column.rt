@@ -5,28 +5,28 @@ ghost use Rattle.records.specs.Column.{laying, laid, surveyed, totalled, readabl
 use crate::price::{read_price, record_of};
 use memory::contract::Memory;
 use memory::fault::Fault;
-use units::LINE;
 use std::alloc::{AllocError, Global};
+use units::LINE;
 
 // A price as it was read, or the fault that the read was refused with.
 pub type Reading = Result<u32, Fault>;
 
 // Writes one record for each price, from address 0 on, up to the first that is refused.
+#[tactic(auto, using(crate::proofs::Columns::laying_refused))]
 pub fn lay_down<M: Memory>(memory: &mut M, prices: &[u32]) -> Result<(), Fault>
     requires { M.coherent memory.old }
     ensures answer { result ≡ laying (M.meaning memory.old) 0 prices.now }
     ensures meaning { M.meaning memory.new ≡ laid (M.meaning memory.old) prices.now }
     ensures coherent { M.coherent memory.new }
 {
-    let mut address = 0;
-    for price in prices {
-        memory.write(address, &record_of(*price))?;
-        address += LINE;
+    for (index, price) in prices.iter().enumerate() {
+        memory.write(index as u64 * LINE, &record_of(*price))?;
     }
     Ok(())
 }
 
 // Reads the prices of the first `count` records.
+#[tactic(auto, using(crate::proofs::Columns::surveyed_more), unfolding(crate::specs::Column::surveyed))]
 pub fn survey<M: Memory>(
     heap: Global,
     memory: &mut M,
@@ -38,6 +38,7 @@ pub fn survey<M: Memory>(
     ensures coherent { M.coherent memory.new }
 {
     let mut readings = Vec::new(heap);
+    // A loop, since no proof says what the memory means after a chain whose closure borrows it.
     for index in 0..count {
         readings.push(read_price(memory, index))?;
     }
@@ -45,15 +46,13 @@ pub fn survey<M: Memory>(
 }
 
 // The total of the column, or the first refusal in it.
+#[tactic(auto, unfolding(crate::specs::Column::totalled))]
 pub fn total(readings: &[Reading]) -> Result<u128, Fault>
     ensures { result ≡ totalled readings.now }
 {
     let mut sum = 0;
     for reading in readings {
-        match reading {
-            Ok(price) => sum += *price as u128,
-            Err(fault) => return Err(*fault),
-        }
+        sum += u128::from((*reading)?);
     }
     Ok(sum)
 }
@@ -62,11 +61,5 @@ pub fn total(readings: &[Reading]) -> Result<u128, Fault>
 pub fn readable(readings: &[Reading]) -> usize
     ensures { result ≡ readables readings.now }
 {
-    let mut count = 0;
-    for reading in readings {
-        if reading.is_ok() {
-            count += 1;
-        }
-    }
-    count
+    readings.iter().filter(|reading| reading.is_ok()).count()
 }

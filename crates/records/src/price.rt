@@ -8,14 +8,15 @@ use memory::fault::Fault;
 use units::LINE;
 
 // Where the price stands in its record.
-const OFFSET: u64 = 8;
+const OFFSET: usize = 8;
 
 // The record with this price, and zeros elsewhere.
+#[tactic(auto, unfolding(crate::specs::Record::record_of))]
 pub fn record_of(price: u32) -> [u8; 128]
     ensures { result ≡ record_of price }
 {
-    let mut record = [0; 128];
-    record[8..12].copy_from_slice(&price.to_be_bytes());
+    let mut record = [0; LINE as usize];
+    record[OFFSET..OFFSET + 4].copy_from_slice(&price.to_be_bytes());
     record
 }
 
@@ -23,7 +24,7 @@ pub fn record_of(price: u32) -> [u8; 128]
 pub fn place(index: u32) -> u64
     ensures { result ≡ place index }
 {
-    index as u64 * LINE + OFFSET
+    u64::from(index) * LINE + OFFSET as u64
 }
 
 pub fn read_price<M: Memory>(memory: &mut M, index: u32) -> Result<u32, Fault>

@@ -1,13 +1,11 @@
-use Rattle.std.proofs.Common.{◌≡◌, ◌-◌, ◌*◌, length, take, Ok}
-use Rattle.dense.specs.Dense.{before, pieces}
+use Rattle.std.proofs.Common.{◌≡◌}
+use Rattle.dense.proofs.Gathers.{Gathering}
 use Rattle.dense.proofs.gather.Given as goal
 
--- The pieces so far and those that are left are the line, and the memory means what it meant.
-abbrev pub invariant-loop-k : goal.invariant-loop-k
-invariant-loop-k g l =
+-- The line so far, by a memory that means what it meant.
+abbrev pub invariant-loop-at : goal.invariant-loop-at
+invariant-loop-at g l =
     let m = g.M.Memory in
-    let laid = g.P.Mapping.meaning l.mapping in
-    (before (Ok (take (l.k * 4) l.line)) (pieces laid (m.meaning l.initial.memory) l.k (32 - l.k)) ≡ pieces laid (m.meaning l.initial.memory) 0 32)
-    × (length l.line ≡ 128)
+    Gathering (g.P.Mapping.meaning l.mapping) (m.meaning l.initial.memory) l.line l.at
     × (m.meaning l.memory ≡ m.meaning l.initial.memory)
     × m.coherent l.memory
