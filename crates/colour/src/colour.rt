@@ -12,6 +12,7 @@ use mapping::refusal::RegisterRefusal;
 use mapping::register::Register;
 use units::{LINE, PAGE};
 
+// Registers by name, each of its width. A list of numbers would be shorter to write by number, and lose both.
 #[derive(Drop)]
 pub struct ColourRegisters {
     image: Register<32>,

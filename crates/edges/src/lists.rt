@@ -4,8 +4,9 @@ use prices::{InputError, parse};
 use std::alloc::Global;
 use std::test::Fail;
 
-fn refused(heap: Global, text: &str, error: InputError) -> Result<(), Fail> {
-    match parse(heap, text.as_bytes()) {
+// A match, since here the refusal is what is wanted.
+fn refused(heap: Global, text: &[u8], error: InputError) -> Result<(), Fail> {
+    match parse(heap, text) {
         Ok(_) => Err(Fail::new("the list was accepted")),
         Err(found) => same(found, error),
     }
@@ -14,18 +15,18 @@ fn refused(heap: Global, text: &str, error: InputError) -> Result<(), Fail> {
 #[test]
 fn bad_lists(rt: HostRuntime) -> Result<(), Fail> {
     let heap = rt.alloc();
-    refused(heap, "", InputError::NoPrices)?;
-    refused(heap, "\n", InputError::NotANumber(1))?;
-    refused(heap, "12\n\n13\n", InputError::NotANumber(2))?;
-    refused(heap, "12\n1 3\n", InputError::NotANumber(2))?;
-    refused(heap, "12\n-3\n", InputError::NotANumber(2))?;
-    refused(heap, "1\n2\n4294967296\n", InputError::TooLarge(3))?;
+    refused(heap, b"", InputError::NoPrices)?;
+    refused(heap, b"\n", InputError::NotANumber(1))?;
+    refused(heap, b"12\n\n13\n", InputError::NotANumber(2))?;
+    refused(heap, b"12\n1 3\n", InputError::NotANumber(2))?;
+    refused(heap, b"12\n-3\n", InputError::NotANumber(2))?;
+    refused(heap, b"1\n2\n4294967296\n", InputError::TooLarge(3))?;
     refused(
         heap,
-        "99999999999999999999999999999999\n",
+        b"99999999999999999999999999999999\n",
         InputError::TooLarge(1),
     )?;
-    refused(heap, "9999999999999999999x\n", InputError::NotANumber(1))
+    refused(heap, b"9999999999999999999x\n", InputError::NotANumber(1))
 }
 
 #[test]
@@ -51,11 +52,5 @@ fn longest_list(rt: HostRuntime) -> Result<(), Fail> {
     }
     assert_eq!(rt; parse(heap, &text)?.len(), 1024);
     text.extend_from_slice(b"5")?;
-    match parse(heap, &text) {
-        Ok(_) => Err(Fail::new("the list was accepted")),
-        Err(found) => {
-            assert_eq!(rt; found, InputError::TooMany(1025));
-            Ok(())
-        },
-    }
+    refused(heap, &text, InputError::TooMany(1025))
 }

@@ -11,12 +11,10 @@ use plain::Plain;
 use records::column::lay_down;
 use std::process::ExitCode;
 use stride::stride::Stride;
+use units::LINE;
 
 // Prices in a dense line.
 const PRICES: usize = 32;
-
-// Bytes of a record.
-const RECORD: usize = 128;
 
 // What any argument prints.
 const HELP: &str = "\
@@ -35,7 +33,7 @@ fn dense_line(rt: &HostRuntime, prices: &[u32]) -> anyhow::Result<()> {
     if prices.len() < PRICES {
         bail!("line {count}: the list ends here, and a dense line takes 32 prices");
     }
-    let mut bytes = vec![in rt.alloc(); 0u8; count as usize * RECORD]?;
+    let mut bytes = vec![in rt.alloc(); 0u8; count as usize * LINE as usize]?;
     let mut memory = Plain::new(&mut bytes);
     lay_down(&mut memory, prices).context("the records were not laid down")?;
     println!(rt; "Laid down {count} records of 128 bytes, the price at offset 8.")?;
@@ -78,6 +76,7 @@ fn set_up(rt: &HostRuntime, values: &[u64]) -> anyhow::Result<Option<Stride>> {
 
 fn show_line(rt: &HostRuntime, line: &[u8; 128]) -> anyhow::Result<()> {
     println!(rt; "The first line of the image, 32 prices side by side:")?;
+    // By places, since `price_at` asks for one.
     for k in 0..PRICES {
         if let Some(price) = price_at(line, k) {
             print!(rt; " {price}")?;

@@ -43,6 +43,7 @@ impl<M: Mapping> RegisterSet<M> {
         ensures kept { kept (λ a. M.source a.mapping) (λ s. s.registers) result ≡ self.registers }
         ensures lawful { IfOk result (λ a. Lawful (M.meaning a.mapping)) }
     {
+        // Both answers are taken apart, so a match and not two closures.
         match M::armed(self.registers) {
             Ok(mapping) => Ok(ArmedSet { mapping }),
             Err((refusal, registers)) => Err((refusal, RegisterSet { registers })),

@@ -8,7 +8,8 @@ use crate::contract::Memory;
 use crate::fault::Fault;
 use std::marker::PhantomData;
 
-// How bytes hold the lines of a memory. Any bytes mean one, so its calls ask nothing.
+// How bytes hold the lines of a memory. Any bytes mean one, so its calls ask nothing. That is why `read` and `write` are written in
+// each format, though alike: what they call asks that the run is admitted, and no public call may ask that.
 pub trait LineFormat {
     // The memory that the bytes mean.
     ghost meaning: { List ℕ → Meaning };

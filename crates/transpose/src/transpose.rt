@@ -12,6 +12,7 @@ use mapping::element::is_element;
 use mapping::refusal::RegisterRefusal;
 use mapping::register::Register;
 
+// Registers by name, each of its width. A list of numbers would be shorter to write by number, and lose both.
 #[derive(Drop)]
 pub struct TransposeRegisters {
     image: Register<32>,
