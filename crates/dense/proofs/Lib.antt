@@ -1,3 +1,3 @@
 pub mod Gathers
 pub mod Grains
-pub mod Prices
+pub mod Words

@@ -1,8 +1,10 @@
 // A dense line: 32 prices that a mapping gathers from the data in a memory.
 #![tactic(auto)]
 
-ghost use Rattle.std.specs.Prelude.{◌≡◌, IfOk, length};
-ghost use Rattle.dense.specs.Dense.{piece, gathered, Dense, word, price_at, total_of};
+ghost use Rattle.std.specs.Prelude.{◌≡◌, ◌≤◌, IfOk, length, sum_by};
+ghost use Rattle.std.specs.Simd.{first_chunks};
+ghost use Rattle.units.specs.Word.{word_at};
+ghost use Rattle.dense.specs.Dense.{piece, gathered, Dense, price_at, total_of};
 
 use mapping::address::{PseudoVirtualAddress, WindowAddress};
 use mapping::contract::Mapping;
@@ -51,26 +53,39 @@ pub fn gather<M: Memory, P: Mapping>(memory: &mut M, mapping: &P) -> Result<[u8;
 }
 
 // The price at place `k` of a dense line; nothing past the last.
-#[tactic(auto, using(crate::proofs::Prices::word_part))]
+#[tactic(auto, using(crate::proofs::Words::price_part))]
 pub fn price_at(line: &[u8; 128], k: usize) -> Option<u32>
     ensures { result ≡ price_at line.now k }
 {
-    line.chunks_exact(PRICE).nth(k).map(number)
+    prices(line).get(k).map(number)
 }
 
 // The total of a dense line.
+#[tactic(auto, using(crate::proofs::Words::prices_sum), unfolding(crate::specs::Dense::total_of))]
 pub fn line_total(line: &[u8; 128]) -> u64
     ensures { result ≡ total_of line.now 32 }
 {
-    line.chunks_exact(PRICE)
-        .map(|price| u64::from(number(price)))
-        .sum()
+    sum(prices(line))
 }
 
-// The number that four bytes say, most significant first. There are four, so the `unwrap` never fails.
-fn number(bytes: &[u8]) -> u32
-    requires { length bytes.now ≡ 4 }
-    ensures { result ≡ word bytes.now 0 }
+fn sum(prices: &[[u8; PRICE]]) -> u64
+    requires { length prices.now ≤ 32 }
+    ensures { result ≡ sum_by (λ p. word_at p 0) prices.now }
 {
-    u32::from_be_bytes(*bytes.as_array().unwrap())
+    prices.iter().map(|price| u64::from(number(price))).sum()
+}
+
+// The prices of a line, four bytes each.
+fn prices(line: &[u8; 128]) -> &[[u8; PRICE]]
+    ensures chunks { result.now ≡ first_chunks 4 32 line.now }
+    ensures count { length result.now ≡ 32 }
+{
+    line.as_chunks().0
+}
+
+// The number that the four bytes say, most significant first.
+fn number(bytes: &[u8; PRICE]) -> u32
+    ensures { result ≡ word_at bytes.now 0 }
+{
+    u32::from_be_bytes(*bytes)
 }

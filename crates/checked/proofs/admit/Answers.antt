@@ -2,7 +2,7 @@
 use Rattle.std.proofs.Common.{Err, sym, ap, ◌∙◌}
 use Rattle.std.proofs.lemmas.Result.{err_from_is_err_and}
 use Rattle.memory.specs.Run.{bounded}
-use Rattle.checked.proofs.Guards.{refused, whole, admitted}
+use Rattle.checked.proofs.Guards.{refused, admitted}
 use Rattle.checked.proofs.admit.Goals as goal
 
 pub returns-in_err-check_run : goal.returns-in_err-check_run
@@ -10,11 +10,6 @@ returns-in_err-check_run c =
     let p = err_from_is_err_and c.from_residual.result c.from_residual.ensures.1 in
     let tested = c.check_run.ensures ∙ ap (λ s. bounded s c.args.a c.args.n) c.size.ensures in
     p.1 ∙ sym (refused c.args.lent.now c.args.a c.args.n p.0 (sym tested ∙ c.in_err-check_run.was ∙ ap Err (sym p.2)))
-
-pub check_line-requires : goal.check_line-requires
-check_line-requires c =
-    let tested = c.check_run.ensures ∙ ap (λ s. bounded s c.args.a c.args.n) c.size.ensures in
-    whole c.args.lent.now c.args.a c.args.n (sym tested ∙ c.in_ok-check_run.was)
 
 pub returns : goal.returns
 returns c =
