@@ -9,7 +9,7 @@ ghost use Rattle.memory.specs.Calls.{answer, delivered, written};
 ghost use Rattle.checked.specs.Line.{xor_all, sealed, start, verdict};
 ghost use Rattle.checked.specs.Checked.{guarding, updated, well_formed};
 
-use memory::bottom::{Bottom, LineFormat};
+use memory::byte_memory::{ByteMemory, LineFormat};
 use memory::fault::{Cause, Fault};
 use memory::run::{cells, check_run};
 use units::LINE;
@@ -20,7 +20,7 @@ pub const STRIDE: usize = 129;
 // A line is borrowed as its 128 cells and a check byte. Bytes after the last whole line, or past 2^40 cells, are no cells.
 pub struct CheckByte;
 
-pub type Checked<'a> = Bottom<'a, CheckByte>;
+pub type Checked<'a> = ByteMemory<'a, CheckByte>;
 
 impl LineFormat for CheckByte {
     ghost meaning = { guarding };

@@ -6,7 +6,7 @@ ghost use Rattle.memory.specs.Bytes.{AllBytes};
 ghost use Rattle.memory.specs.Calls.{answer, delivered, written};
 ghost use Rattle.plain.specs.Plain.{holding, updated, well_formed};
 
-use memory::bottom::{Bottom, LineFormat};
+use memory::byte_memory::{ByteMemory, LineFormat};
 use memory::fault::Fault;
 use memory::run::{cells, check_run};
 use units::LINE;
@@ -14,7 +14,7 @@ use units::LINE;
 // A line is borrowed as its 128 cells. Bytes after the last whole line, or past 2^40, are no cells.
 pub struct CellsAlone;
 
-pub type Plain<'a> = Bottom<'a, CellsAlone>;
+pub type Plain<'a> = ByteMemory<'a, CellsAlone>;
 
 impl LineFormat for CellsAlone {
     ghost meaning = { holding };

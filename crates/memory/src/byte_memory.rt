@@ -35,17 +35,17 @@ pub trait LineFormat {
 
 // The bytes are lent to the memory, and no other part of them is touched than the cells that a call names.
 #[derive(Drop)]
-pub struct Bottom<'a, F: LineFormat> {
+pub struct ByteMemory<'a, F: LineFormat> {
     bytes: &'a mut [u8],
     format: PhantomData<F>,
 }
 
-impl<'a, F: LineFormat> Bottom<'a, F> {
-    pub fn new(bytes: &'a mut [u8]) -> Bottom<'a, F>
+impl<'a, F: LineFormat> ByteMemory<'a, F> {
+    pub fn new(bytes: &'a mut [u8]) -> ByteMemory<'a, F>
         ensures bytes { Over result.bytes bytes.old bytes.entry }
         ensures coherent { AllBytes result.bytes.now }
     {
-        Bottom {
+        ByteMemory {
             bytes,
             format: PhantomData,
         }
@@ -60,7 +60,7 @@ impl<'a, F: LineFormat> Bottom<'a, F> {
     }
 }
 
-impl<F: LineFormat> Memory for Bottom<'_, F> {
+impl<F: LineFormat> Memory for ByteMemory<'_, F> {
     ghost meaning = { λ m. F.meaning m.bytes.now };
 
     ghost coherent = { λ m. AllBytes m.bytes.now };
