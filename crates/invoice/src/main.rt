@@ -26,6 +26,7 @@ fn main(rt: HostRuntime) -> anyhow::Result<ExitCode> {
 
 // The whole run, over bytes for just these records.
 fn invoice(rt: &HostRuntime, prices: &[u32]) -> anyhow::Result<()> {
+    // The list's length in the bits that the index of a record has: found once, since the step may fail.
     let count = u32::try_from(prices.len())?;
     println!(rt; "Read {count} prices, in cents.")?;
     let mut bytes = vec![in rt.alloc(); 0u8; count as usize * STRIDE]?;

@@ -10,7 +10,8 @@ pub trait Memory {
     // The size, and at each address a byte or a fault.
     ghost meaning: { Self → Meaning };
 
-    // Holds of every state that is reached from the memory's making.
+    // Holds of every state that is reached from the memory's making. Each call asks it and promises it by this name, since what holds
+    // is another fact for each memory.
     ghost coherent: { Self → Type 0 };
 
     // What a read at an address, into a buffer that held these bytes, does to the state itself, beyond the meaning.
