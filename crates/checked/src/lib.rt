@@ -5,7 +5,7 @@ pub mod chip;
 
 ghost use Rattle.std.specs.Prelude.{◌≡◌, ◌+◌, ◌^◌, ◌<◌, ◌≤◌, length, take, Ok};
 ghost use Rattle.memory.specs.Bytes.{AllBytes, overlaid};
-ghost use Rattle.memory.specs.Calls.{answer, delivered, written};
+ghost use Rattle.memory.specs.Calls.{answer, written};
 ghost use Rattle.checked.specs.Line.{xor_all, sealed, start, verdict};
 ghost use Rattle.checked.specs.Checked.{guarding, updated, well_formed};
 
@@ -33,10 +33,9 @@ impl LineFormat for CheckByte {
         cells((lent.len() / STRIDE) as u64)
     }
 
-    fn read(lent: &[u8], a: u64, buffer: &mut [u8]) -> Result<(), Fault> {
-        admit(lent, a, buffer.len())?;
-        copy_out(lent, a, buffer);
-        Ok(())
+    fn find(lent: &[u8], a: u64, n: usize) -> Result<usize, Fault> {
+        admit(lent, a, n)?;
+        Ok(line_start(a) + (a % LINE) as usize)
     }
 
     fn write(lent: &mut [u8], a: u64, bytes: &[u8]) -> Result<(), Fault> {
@@ -64,16 +63,6 @@ fn check_line(lent: &[u8], a: u64) -> Result<(), Fault>
         return Err(Fault::here(Cause::FailedCheck, a));
     }
     Ok(())
-}
-
-// Fills the buffer from a run that is admitted.
-fn copy_out(lent: &[u8], a: u64, buffer: &mut [u8])
-    requires { answer (guarding lent.now) a (length buffer.old) ≡ Ok tt }
-    ensures { buffer.new ≡ delivered (guarding lent.now) a buffer.old }
-{
-    let at = line_start(a) + (a % LINE) as usize;
-    let n = buffer.len();
-    buffer.copy_from_slice(&lent[at..at + n]);
 }
 
 // Puts the bytes into a run that is admitted.

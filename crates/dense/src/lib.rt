@@ -10,9 +10,7 @@ use mapping::address::{PseudoVirtualAddress, WindowAddress};
 use mapping::contract::Mapping;
 use memory::contract::Memory;
 use memory::fault::{self, Cause, Fault};
-
-// Bytes of a price, and the least grain of a mapping, so that a price never leaves its grain.
-const PRICE: usize = 4;
+use units::WORD;
 
 // The four bytes that stand behind the window address `s`: blank where the mapping gives nothing, and what the memory
 // refuses is passed up.
@@ -29,7 +27,7 @@ pub fn gather_price<M: Memory, P: Mapping>(
     let Some(PseudoVirtualAddress(v)) = mapping.place(s) else {
         return Err(Fault::here(Cause::Blank, s.0));
     };
-    let mut bytes = [0; PRICE];
+    let mut bytes = [0; WORD];
     fault::from_below(memory.read(v, &mut bytes))?;
     Ok(bytes)
 }
@@ -44,10 +42,11 @@ pub fn gather<M: Memory, P: Mapping>(memory: &mut M, mapping: &P) -> Result<[u8;
     ensures coherent { M.Memory.coherent memory.new }
 {
     let mut line = [0; 128];
-    // By places, since no proof knows what writes through `chunks_exact_mut` leave in the line.
-    for at in (0..line.len()).step_by(PRICE) {
+    // By places: tried with `chunks_exact_mut`, and no proof knows what its writes leave in the line. A word is the least grain of a
+    // mapping, so no price leaves its grain.
+    for at in (0..line.len()).step_by(WORD) {
         let piece = gather_price(memory, mapping, WindowAddress(at as u64))?;
-        line[at..at + PRICE].copy_from_slice(&piece);
+        line[at..at + WORD].copy_from_slice(&piece);
     }
     Ok(line)
 }
@@ -68,7 +67,7 @@ pub fn line_total(line: &[u8; 128]) -> u64
     sum(prices(line))
 }
 
-fn sum(prices: &[[u8; PRICE]]) -> u64
+fn sum(prices: &[[u8; WORD]]) -> u64
     requires { length prices.now ≤ 32 }
     ensures { result ≡ sum_by (λ p. word_at p 0) prices.now }
 {
@@ -76,7 +75,7 @@ fn sum(prices: &[[u8; PRICE]]) -> u64
 }
 
 // The prices of a line, four bytes each.
-fn prices(line: &[u8; 128]) -> &[[u8; PRICE]]
+fn prices(line: &[u8; 128]) -> &[[u8; WORD]]
     ensures chunks { result.now ≡ first_chunks 4 32 line.now }
     ensures count { length result.now ≡ 32 }
 {
@@ -84,7 +83,7 @@ fn prices(line: &[u8; 128]) -> &[[u8; PRICE]]
 }
 
 // The number that the four bytes say, most significant first.
-fn number(bytes: &[u8; PRICE]) -> u32
+fn number(bytes: &[u8; WORD]) -> u32
     ensures { result ≡ word_at bytes.now 0 }
 {
     u32::from_be_bytes(*bytes)

@@ -4,12 +4,8 @@ use prices::{InputError, parse};
 use std::alloc::Global;
 use std::test::Fail;
 
-// A match, since here the refusal is what is wanted.
 fn refused(heap: Global, text: &[u8], error: InputError) -> Result<(), Fail> {
-    match parse(heap, text) {
-        Ok(_) => Err(Fail::new("the list was accepted")),
-        Err(found) => same(found, error),
-    }
+    same(parse(heap, text).err(), Some(error))
 }
 
 #[test]

@@ -1,5 +1,6 @@
 -- Which sets arm, and what becomes of the registers. Assumes nothing.
 -- arming rules rs: the refusal of the registers rs, if they do not arm
+-- verdict rules rs: acceptance if they arm, or else that refusal
 -- arms rules rs: whether they arm
 -- refusal r: the refusal in an answer
 -- kept f g r: what an answer keeps, by f of what was armed, or by g of what was handed back
@@ -14,6 +15,13 @@ arming rules rs =
     cond (image rs == 0 || not (divides 128 (image rs))) (Some BadImage)
     (cond (not (rules.condition rs)) (Some BadCondition)
     (cond (nat_lt (2 ^ 34) (rules.extent rs)) (Some TooFar) None))
+
+abbrev pub refused_by : Option ArmingRefusal → Result (Unit {0}) ArmingRefusal
+refused_by None = Ok tt
+refused_by (Some refusal) = Err refusal
+
+abbrev pub verdict : Rules → List ℕ → Result (Unit {0}) ArmingRefusal
+verdict rules rs = refused_by (arming rules rs)
 
 abbrev pub arms : Rules → List ℕ → Bool
 arms rules rs = not (is_some (arming rules rs))

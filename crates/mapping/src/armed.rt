@@ -60,8 +60,8 @@ impl<R: Addressing> Mapping for Armed<R> {
 
     fn armed(registers: R) -> Result<Armed<R>, (ArmingRefusal, R)> {
         match objection(&registers) {
-            Some(refusal) => Err((refusal, registers)),
-            None => Ok(Armed { registers }),
+            Ok(()) => Ok(Armed { registers }),
+            Err(refusal) => Err((refusal, registers)),
         }
     }
 

@@ -1,4 +1,4 @@
-// Which values arm, and with what number the others are refused.
+// Which values arm, and with which refusal the others do not.
 use crate::setup::{armed, set_of};
 use colour::colour::Colour;
 use direct::direct::Direct;

@@ -1,15 +1,15 @@
 // Memories over borrowed bytes. How the bytes hold the lines is a format; all else of such a memory stands here once.
-ghost use Rattle.std.specs.Prelude.{◌≡◌, ℕ, List, length};
+ghost use Rattle.std.specs.Prelude.{◌≡◌, ℕ, List, length, IfOk};
+ghost use Rattle.std.specs.Result.{result_map_both};
 ghost use Rattle.memory.specs.Bytes.{AllBytes, Over};
-ghost use Rattle.memory.specs.Calls.{answer, delivered, written};
+ghost use Rattle.memory.specs.Calls.{answer, delivered, written, StandsAt};
 ghost use Rattle.memory.specs.Meaning.{Meaning, WellFormed};
 
 use crate::contract::Memory;
 use crate::fault::Fault;
 use std::marker::PhantomData;
 
-// How bytes hold the lines of a memory. Any bytes mean one, so its calls ask nothing. That is why `read` and `write` are written in
-// each format, though alike: what they call asks that the run is admitted, and no public call may ask that.
+// How bytes hold the lines of a memory. Any bytes mean one, so its calls ask nothing.
 pub trait LineFormat {
     // The memory that the bytes mean.
     ghost meaning: { List ℕ → Meaning };
@@ -20,9 +20,10 @@ pub trait LineFormat {
     fn size(lent: &[u8]) -> u64
         ensures { result ≡ (meaning lent.now).size };
 
-    fn read(lent: &[u8], a: u64, buffer: &mut [u8]) -> Result<(), Fault>
-        ensures answer { result ≡ answer (meaning lent.now) a (length buffer.old) }
-        ensures buffer { buffer.new ≡ delivered (meaning lent.now) a buffer.old };
+    // Where the cells of a run stand in the bytes, one after the other, or the refusal of the run.
+    fn find(lent: &[u8], a: u64, n: usize) -> Result<usize, Fault>
+        ensures answer { result_map_both (λ _. tt) (λ f. f) result ≡ answer (meaning lent.now) a n }
+        ensures cells { IfOk result (StandsAt (meaning lent.now) lent.now a n) };
 
     fn write(lent: &mut [u8], a: u64, bytes: &[u8]) -> Result<(), Fault>
         ensures answer { result ≡ answer (meaning lent.old) a (length bytes.now) }
@@ -51,12 +52,15 @@ impl<'a, F: LineFormat> ByteMemory<'a, F> {
         }
     }
 
-    // A read of the bytes, which it leaves as they are.
+    // A read of the bytes, which it leaves as they are. Apart from `read`, since what is lent from behind a `&mut self` comes back unknown.
     fn fetch(&self, a: u64, buffer: &mut [u8]) -> Result<(), Fault>
         ensures answer { result ≡ answer (F.meaning self.now.bytes.now) a (length buffer.old) }
         ensures buffer { buffer.new ≡ delivered (F.meaning self.now.bytes.now) a buffer.old }
     {
-        F::read(self.bytes, a, buffer)
+        let n = buffer.len();
+        let at = F::find(self.bytes, a, n)?;
+        buffer.copy_from_slice(&self.bytes[at..at + n]);
+        Ok(())
     }
 }
 

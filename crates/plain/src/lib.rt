@@ -3,7 +3,7 @@
 
 ghost use Rattle.std.specs.Prelude.{◌≡◌, length, Ok};
 ghost use Rattle.memory.specs.Bytes.{AllBytes};
-ghost use Rattle.memory.specs.Calls.{answer, delivered, written};
+ghost use Rattle.memory.specs.Calls.{answer, written};
 ghost use Rattle.plain.specs.Plain.{holding, updated, well_formed};
 
 use memory::byte_memory::{ByteMemory, LineFormat};
@@ -27,10 +27,9 @@ impl LineFormat for CellsAlone {
         cells(lent.len() as u64 / LINE)
     }
 
-    fn read(lent: &[u8], a: u64, buffer: &mut [u8]) -> Result<(), Fault> {
-        admit(lent, a, buffer.len())?;
-        copy_out(lent, a, buffer);
-        Ok(())
+    fn find(lent: &[u8], a: u64, n: usize) -> Result<usize, Fault> {
+        admit(lent, a, n)?;
+        Ok(a as usize)
     }
 
     fn write(lent: &mut [u8], a: u64, bytes: &[u8]) -> Result<(), Fault> {
@@ -45,16 +44,6 @@ fn admit(lent: &[u8], a: u64, n: usize) -> Result<(), Fault>
     ensures { result ≡ answer (holding lent.now) a n }
 {
     check_run(CellsAlone::size(lent), a, n)
-}
-
-// Fills the buffer from a run that is admitted.
-fn copy_out(lent: &[u8], a: u64, buffer: &mut [u8])
-    requires { answer (holding lent.now) a (length buffer.old) ≡ Ok tt }
-    ensures { buffer.new ≡ delivered (holding lent.now) a buffer.old }
-{
-    let at = a as usize;
-    let n = buffer.len();
-    buffer.copy_from_slice(&lent[at..at + n]);
 }
 
 // Puts the bytes into a run that is admitted.

@@ -38,7 +38,7 @@ pub fn survey<M: Memory>(
     ensures coherent { M.coherent memory.new }
 {
     let mut readings = Vec::new(heap);
-    // A loop, since no proof says what the memory means after a chain whose closure borrows it.
+    // A loop: tried as a chain, and no proof says what the memory means after a closure that borrows it.
     for index in 0..count {
         readings.push(read_price(memory, index))?;
     }

@@ -5,7 +5,7 @@ ghost use Rattle.records.specs.Record.{place, digits, record_of, priced};
 
 use memory::contract::Memory;
 use memory::fault::Fault;
-use units::LINE;
+use units::{LINE, WORD};
 
 // Where the price stands in its record.
 const OFFSET: usize = 8;
@@ -16,7 +16,7 @@ pub fn record_of(price: u32) -> [u8; 128]
     ensures { result ≡ record_of price }
 {
     let mut record = [0; LINE as usize];
-    record[OFFSET..OFFSET + 4].copy_from_slice(&price.to_be_bytes());
+    record[OFFSET..OFFSET + WORD].copy_from_slice(&price.to_be_bytes());
     record
 }
 
@@ -33,7 +33,7 @@ pub fn read_price<M: Memory>(memory: &mut M, index: u32) -> Result<u32, Fault>
     ensures meaning { M.meaning memory.new ≡ M.meaning memory.old }
     ensures coherent { M.coherent memory.new }
 {
-    let mut bytes = [0; 4];
+    let mut bytes = [0; WORD];
     memory.read(place(index), &mut bytes)?;
     Ok(u32::from_be_bytes(bytes))
 }

@@ -1,4 +1,4 @@
-// The one test for a power of two.
+// A power of two: what it is, and that std's test answers it.
 ghost use Rattle.std.specs.Prelude.{◌≡◌, Decides};
 ghost use Rattle.units.specs.Power.{is_power_of_two, PowerOfTwo};
 
@@ -7,11 +7,5 @@ pub fn is_power_of_two(n: u64) -> bool
     ensures value { result ≡ is_power_of_two n }
     ensures decides { Decides result (PowerOfTwo n) }
 {
-    one_bit(n)
-}
-
-fn one_bit(n: u64) -> bool
-    ensures { result ≡ is_power_of_two n }
-{
-    n.count_ones() == 1
+    n.is_power_of_two()
 }

@@ -5,3 +5,6 @@ pub const LINE: u64 = 128;
 
 // Bytes in a page.
 pub const PAGE: u64 = 4096;
+
+// Bytes of a word, which a price is.
+pub const WORD: usize = 4;

@@ -6,7 +6,7 @@ use Rattle.units.proofs.power.is_power_of_two.Goals as goal
 
 pub returns : goal.returns
 returns c =
-    let test = c.one_bit.ensures in
+    let test = c.is_power_of_two.ensures in
     record {
       value = test;
       decides = (
