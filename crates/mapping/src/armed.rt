@@ -17,14 +17,15 @@ pub trait Addressing: RegisterRecord {
 
     ghost TYPE: { ℕ };
 
-    // The page of the memory below where the page table starts.
+    // The page of the memory below where the page table starts: as the image size, a register that each record names.
     fn table(&self) -> u64
         ensures { result ≡ table (Self.held self.now) };
 
     fn grain(&self) -> u64
         ensures { result ≡ Self.rules.grain (Self.held self.now) };
 
-    // Where a byte of the image stands in the data, or nothing. Only registers that arm are known to place it below 2^64.
+    // Where a byte of the image stands in the data, or nothing. Only registers that arm are known to place it below 2^64. That the byte
+    // is inside the image each mapping tests itself, since no call may ask it.
     fn place(&self, s: WindowAddress) -> Option<PseudoVirtualAddress>
         requires { arms Self.rules (Self.held self.now) ≡ true }
         ensures { option_map (λ v. v.0) result ≡ placed Self.rules (Self.held self.now) s.0 };
