@@ -38,6 +38,7 @@ impl LineFormat for CheckByte {
         Ok(line_start(a) + (a % LINE) as usize)
     }
 
+    // As in every format, and no more than the order of its own two calls.
     fn write(lent: &mut [u8], a: u64, bytes: &[u8]) -> Result<(), Fault> {
         admit(lent, a, bytes.len())?;
         copy_in(lent, a, bytes);

@@ -32,6 +32,7 @@ impl LineFormat for CellsAlone {
         Ok(a as usize)
     }
 
+    // As in every format, and no more than the order of its own two calls.
     fn write(lent: &mut [u8], a: u64, bytes: &[u8]) -> Result<(), Fault> {
         admit(lent, a, bytes.len())?;
         copy_in(lent, a, bytes);
