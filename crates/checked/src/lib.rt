@@ -92,7 +92,8 @@ fn exclusive_or(bytes: &[u8]) -> u8
     bytes.iter().fold(0, |all, byte| all ^ byte)
 }
 
-// Puts the bytes into the line at the offset, and brings the check byte up to date.
+// Puts the bytes into the line at the offset, and brings the check byte up to date. The line comes whole, since its check byte is of all
+// its cells.
 fn store(line: &mut [u8], offset: usize, bytes: &[u8])
     requires { (length line.old ≡ 129) × (offset + length bytes.now ≤ 128) }
     ensures { line.new ≡ sealed (overlaid (take 128 line.old) offset bytes.now) }

@@ -24,9 +24,7 @@ pub fn gather_price<M: Memory, P: Mapping>(
     ensures meaning { M.Memory.meaning memory.new ≡ M.Memory.meaning memory.old }
     ensures coherent { M.Memory.coherent memory.new }
 {
-    let Some(PseudoVirtualAddress(v)) = mapping.place(s) else {
-        return Err(Fault::here(Cause::Blank, s.0));
-    };
+    let PseudoVirtualAddress(v) = mapping.place(s).ok_or(Fault::here(Cause::Blank, s.0))?;
     let mut bytes = [0; WORD];
     fault::from_below(memory.read(v, &mut bytes))?;
     Ok(bytes)

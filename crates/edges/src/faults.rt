@@ -20,12 +20,8 @@ fn depth_stops_at_255(rt: HostRuntime) {
 fn free_causes_begin_at_7(rt: HostRuntime) -> Result<(), Fail> {
     assert_eq!(rt; CustomCause::new(0), None);
     assert_eq!(rt; CustomCause::new(6), None);
-    let Some(first) = CustomCause::new(7) else {
-        return Err(Fail::new("7 is free"));
-    };
-    let Some(last) = CustomCause::new(255) else {
-        return Err(Fail::new("255 is free"));
-    };
+    let first = CustomCause::new(7).ok_or_else(|| Fail::new("7 is free"))?;
+    let last = CustomCause::new(255).ok_or_else(|| Fail::new("255 is free"))?;
     assert_eq!(rt; Cause::Custom(first).number(), 7);
     assert_eq!(rt; Cause::Custom(last).number(), 255);
     Ok(())

@@ -25,9 +25,7 @@ fn causes(rt: HostRuntime) -> Result<(), Fail> {
     says(heap, Cause::NoPage, "no page (cause 4)")?;
     says(heap, Cause::PageOut, "page out (cause 5)")?;
     says(heap, Cause::FailedCheck, "failed check (cause 6)")?;
-    let Some(custom) = CustomCause::new(200) else {
-        return Err(Fail::new("200 is free"));
-    };
+    let custom = CustomCause::new(200).ok_or_else(|| Fail::new("200 is free"))?;
     says(
         heap,
         Cause::Custom(custom),

@@ -4,7 +4,7 @@ use memory::contract::Memory;
 use memory::fault::{Cause, Fault};
 use std::test::Fail;
 
-const LAST: u64 = 18_446_744_073_709_551_615;
+const LAST: u64 = u64::MAX;
 
 // Reads a byte that a write put there, with its neighbours as they were.
 fn keeps_a_byte<M: Memory>(memory: &mut M, a: u64) -> Result<(), Fail>

@@ -76,7 +76,7 @@ fn set_up(rt: &HostRuntime, values: &[u64]) -> anyhow::Result<Option<Stride>> {
 
 fn show_line(rt: &HostRuntime, line: &[u8; 128]) -> anyhow::Result<()> {
     println!(rt; "The first line of the image, 32 prices side by side:")?;
-    // By places, as `price_at` gives prices: a call that gave all of them would serve this loop alone.
+    // By places, as `price_at` gives prices: a public call that gave all of them would serve this loop alone.
     for k in 0..PRICES {
         if let Some(price) = price_at(line, k) {
             print!(rt; " {price}")?;

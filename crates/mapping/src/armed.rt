@@ -15,6 +15,7 @@ pub trait Addressing: RegisterRecord {
     // The type number.
     const TYPE: u8;
 
+    // The same for clauses, which cannot name the constant; the check proves the two equal.
     ghost TYPE: { ℕ };
 
     // The page of the memory below where the page table starts: as the image size, a register that each record names.
@@ -25,7 +26,7 @@ pub trait Addressing: RegisterRecord {
         ensures { result ≡ Self.rules.grain (Self.held self.now) };
 
     // Where a byte of the image stands in the data, or nothing. Only registers that arm are known to place it below 2^64. That the byte
-    // is inside the image each mapping tests itself, since no call may ask it.
+    // is inside the image each mapping tests itself: a call may ask that it is given what has armed, and nothing of an address.
     fn place(&self, s: WindowAddress) -> Option<PseudoVirtualAddress>
         requires { arms Self.rules (Self.held self.now) ≡ true }
         ensures { option_map (λ v. v.0) result ≡ placed Self.rules (Self.held self.now) s.0 };
@@ -60,6 +61,7 @@ impl<R: Addressing> Mapping for Armed<R> {
     }
 
     fn armed(registers: R) -> Result<Armed<R>, (ArmingRefusal, R)> {
+        // The registers go into either answer, so a match and not two closures.
         match objection(&registers) {
             Ok(()) => Ok(Armed { registers }),
             Err(refusal) => Err((refusal, registers)),

@@ -127,7 +127,7 @@ fn mended() -> Result<(), Fail> {
     let Err((refusal, mut set)) = set_of::<Stride>(&[128, 7, 4, 128, 125]).arm() else {
         return Err(Fail::new("armed"));
     };
-    same(refusal.number(), 14)?;
+    same(refusal, ArmingRefusal::BadCondition)?;
     same(set.write(4, 124), Ok(()))?;
     let Ok(armed) = set.arm() else {
         return Err(Fail::new("not armed"));

@@ -14,9 +14,9 @@ fn check_widths<M: Mapping>(widths: &[u32]) -> Result<(), Fail> {
     let no_register = Err(RegisterRefusal::NoRegister);
     let too_wide = Err(RegisterRefusal::TooWide);
     for (number, width) in (0..).zip(widths) {
-        let Some(limit) = 1u64.checked_shl(*width) else {
-            return Err(Fail::new("a register has at most 63 bits"));
-        };
+        let limit = 1u64
+            .checked_shl(*width)
+            .ok_or_else(|| Fail::new("a register has at most 63 bits"))?;
         // The check does not see that a power of two is above 0.
         if limit == 0 {
             return Err(Fail::new("a power of two is not 0"));

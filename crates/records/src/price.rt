@@ -27,6 +27,7 @@ pub fn place(index: u32) -> u64
     u64::from(index) * LINE + OFFSET as u64
 }
 
+// That a read leaves the meaning each call says anew: a caller knows of a call only what its own contract says.
 pub fn read_price<M: Memory>(memory: &mut M, index: u32) -> Result<u32, Fault>
     requires { M.coherent memory.old }
     ensures value { result ≡ priced (M.meaning memory.old) index }

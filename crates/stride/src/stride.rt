@@ -79,6 +79,7 @@ impl RegisterRecord for StrideRegisters {
         self.image.get()
     }
 
+    // As in each mapping with a condition: `end` asks what `met` found, so both are the record's own.
     fn extent(&self) -> Option<u64> {
         self.met().then(|| self.end())
     }

@@ -92,6 +92,7 @@ impl RegisterRecord for TransposeRegisters {
         self.image.get()
     }
 
+    // As in each mapping with a condition: `end` asks what `met` found, so both are the record's own.
     fn extent(&self) -> Option<u64> {
         self.met().then(|| self.end())
     }
