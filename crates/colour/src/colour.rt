@@ -92,6 +92,7 @@ impl Addressing for ColourRegisters {
 
     ghost numbered = { refl };
 
+    // One form in each mapping, by the laws of its own rules; `Laws.lawful` has what all share.
     ghost laws = { λ r passed.
         let rs = SpecsColour.held r in
         Laws.lawful colour_rules rs passed r.image.fits r.table.fits (addressed rs (Laws.armed colour_rules rs passed)) };

@@ -55,6 +55,7 @@ impl Addressing for DirectRegisters {
 
     ghost numbered = { refl };
 
+    // One form in each mapping, by the laws of its own rules; `Laws.lawful` has what all share.
     ghost laws = { λ r passed. Laws.lawful direct_rules (SpecsDirect.held r) passed r.image.fits r.table.fits (addressed (SpecsDirect.held r)) };
 
     fn table(&self) -> u64 {

@@ -92,6 +92,7 @@ impl Addressing for StrideRegisters {
 
     ghost numbered = { refl };
 
+    // One form in each mapping, by the laws of its own rules; `Laws.lawful` has what all share.
     ghost laws = { λ r passed.
         let rs = SpecsStride.held r in
         Laws.lawful stride_rules rs passed r.image.fits r.table.fits (addressed rs (Laws.armed stride_rules rs passed)) };

@@ -105,6 +105,7 @@ impl Addressing for TransposeRegisters {
 
     ghost numbered = { refl };
 
+    // One form in each mapping, by the laws of its own rules; `Laws.lawful` has what all share.
     ghost laws = { λ r passed.
         let rs = SpecsTranspose.held r in
         Laws.lawful transpose_rules rs passed r.image.fits r.table.fits (addressed rs (Laws.armed transpose_rules rs passed)) };
