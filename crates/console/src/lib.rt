@@ -1,14 +1,15 @@
 // What the programs share: the list of prices on their input, the help text, and how they end.
 #![tactic(auto)]
 
-ghost use Rattle.std.specs.Prelude.{◌≤◌, IfOk};
+ghost use Rattle.std.specs.Prelude.{◌≡◌, ◌≤◌, IfOk};
+ghost use Rattle.console.specs.Status.{exit_status};
 
 use prices::parse;
 use std::env;
 use std::io::Read;
 use std::process::ExitCode;
 
-// Runs the work on the list from standard input. What goes wrong is said once, after the program's name, and is status 1.
+// Runs the work on the list from standard input, and ends as it came out. What is read no contract can say.
 pub fn start<F: FnOnce(&[u32]) -> anyhow::Result<()>>(
     rt: &HostRuntime,
     name: &str,
@@ -18,11 +19,20 @@ pub fn start<F: FnOnce(&[u32]) -> anyhow::Result<()>>(
     requires { F.IsAlwaysCallable work }
     ensures { IfOk result (λ code. code.status ≤ 1) }
 {
-    if let Err(error) = help_or_work(rt, help, work) {
-        eprintln!(rt; "{name}: {error:#}")?;
-        return Ok(ExitCode::FAILURE);
+    end(rt, name, help_or_work(rt, help, work))
+}
+
+// Ends a program whose work came out so: status 0 where it was done, and else 1, with what went wrong after the program's name.
+pub fn end(rt: &HostRuntime, name: &str, done: anyhow::Result<()>) -> anyhow::Result<ExitCode>
+    ensures { IfOk result (λ code. code.status ≡ exit_status done) }
+{
+    match done {
+        Ok(()) => Ok(ExitCode::SUCCESS),
+        Err(error) => {
+            eprintln!(rt; "{name}: {error:#}")?;
+            Ok(ExitCode::FAILURE)
+        }
     }
-    Ok(ExitCode::SUCCESS)
 }
 
 // With any argument the help text is all that is done.
