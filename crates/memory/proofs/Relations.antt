@@ -3,11 +3,12 @@ use Rattle.std.proofs.Common.{◌≡◌, ℕ, zero, suc, ◌-◌, ◌<◌, cond,
 use Rattle.std.specs.Result.{result_and}
 use Rattle.memory.specs.declared.fault.Fault.{Fault}
 use Rattle.memory.specs.Meaning.{Cell, fault, Meaning}
-use Rattle.memory.specs.Run.{bounded}
-use Rattle.memory.specs.Calls.{plain, value, sound, answer, bytes, delivered, stored, written}
+use Rattle.memory.specs.Run.{check_run}
+use Rattle.memory.specs.Calls.{cell_answer, value, first_fault, read_answer, write_answer, bytes, delivered, stored, written}
 use Rattle.memory.specs.Relation.{Kept, Agree, Agreement}
 use Rattle.memory.proofs.Runs.{Taken, taken}
 use Rattle.memory.proofs.Overlays.{Inside, cases_run}
+use Rattle.memory.proofs.Calls.{writes_as_reads}
 use Rattle.memory.proofs.Writes.{stored_inside, stored_outside, same_size, accepted_taken, accepted_each}
 
 pub kept_same : (m : Meaning) → Kept m m
@@ -22,15 +23,15 @@ kept_more {m} {n} {o} p q = record {
       q.bytes i c.0 (subst (λ s. i < s) (sym p.size) low) c.1;
 }
 
-no_fault : (c : Cell) (f : Fault) → plain c ≡ Ok tt → c ≡ fault f → ⊥
+no_fault : (c : Cell) (f : Fault) → cell_answer c ≡ Ok tt → c ≡ fault f → ⊥
 no_fault c f ok e = let z : ◌≡◌ {A = ℕ} 0 1 = cc in omega arith
 
-stored_kept : (m : Meaning) (a : ℕ) (bs : List ℕ) → answer m a (length bs) ≡ Ok tt → Kept m (stored m a bs)
+stored_kept : (m : Meaning) (a : ℕ) (bs : List ℕ) → write_answer m a (length bs) ≡ Ok tt → Kept m (stored m a bs)
 stored_kept m a bs ok = record {
   size = same_size m a bs;
   faults = λ i f low e.
       ⊎_elim
-      (λ run. absurd (no_fault (m.cell i) f (accepted_each m a (length bs) ok i run) e))
+      (λ run. absurd (no_fault (m.cell i) f (accepted_each m a (length bs) (sym (writes_as_reads m a (length bs)) ∙ ok) i run) e))
       (λ run. stored_outside m a bs i run ∙ e)
       (cases_run a (length bs) i);
   bytes = λ i b low e.
@@ -40,21 +41,21 @@ stored_kept m a bs ok = record {
       (cases_run a (length bs) i);
 }
 
-written_kept_by : (m : Meaning) (a : ℕ) (bs : List ℕ) (r : Result (Unit {0}) Fault) → answer m a (length bs) ≡ r → Kept m (cond (is_ok r) (stored m a bs) m)
+written_kept_by : (m : Meaning) (a : ℕ) (bs : List ℕ) (r : Result (Unit {0}) Fault) → write_answer m a (length bs) ≡ r → Kept m (cond (is_ok r) (stored m a bs) m)
 written_kept_by m a bs (Ok u) e = stored_kept m a bs e
 written_kept_by m a bs (Err f) e = kept_same m
 
 -- no call alters the size, turns a byte into a fault, or a fault into anything else
 pub written_kept : (m : Meaning) (a : ℕ) (bs : List ℕ) → Kept m (written m a bs)
-written_kept m a bs = written_kept_by m a bs (answer m a (length bs)) refl
+written_kept m a bs = written_kept_by m a bs (write_answer m a (length bs)) refl
 
 -- the cells of a run are all that its answer and its bytes depend on
 module _ (c d : ℕ → Cell) where
-  faults_of_run : (a n : ℕ) → ((i : ℕ) → Inside a n i → c i ≡ d i) → sound c a n ≡ sound d a n
-  unfolding sound
+  faults_of_run : (a n : ℕ) → ((i : ℕ) → Inside a n i → c i ≡ d i) → first_fault c a n ≡ first_fault d a n
+  unfolding first_fault
   faults_of_run a zero same = refl
   faults_of_run a (suc n) same =
-      rw (same a (omega arith, omega arith)) (ap (result_and (plain (d a))) (faults_of_run (suc a) n (λ i run. same i (omega arith, omega arith))))
+      rw (same a (omega arith, omega arith)) (ap (result_and (cell_answer (d a))) (faults_of_run (suc a) n (λ i run. same i (omega arith, omega arith))))
 
   bytes_of_run : (a n : ℕ) → ((i : ℕ) → Inside a n i → c i ≡ d i) → bytes c a n ≡ bytes d a n
   unfolding bytes
@@ -69,27 +70,27 @@ module _ (m n : Meaning) (agree : Agree m n) (a k : ℕ) where
   inside run i within_run = agree.cells i (omega arith)
 
   -- by what the test of the run answers
-  reads_by : (r : Result (Unit {0}) Fault) → bounded m.size a k ≡ r → result_and r (sound m.cell a k) ≡ result_and r (sound n.cell a k)
+  reads_by : (r : Result (Unit {0}) Fault) → check_run m.size a k ≡ r → result_and r (first_fault m.cell a k) ≡ result_and r (first_fault n.cell a k)
   reads_by (Ok u) e = faults_of_run m.cell n.cell a k (inside (taken m.size a k e))
   reads_by (Err f) e = refl
 
-  pub agree_reads : answer m a k ≡ answer n a k
-  unfolding answer
+  pub agree_reads : read_answer m a k ≡ read_answer n a k
+  unfolding read_answer
   agree_reads =
-      reads_by (bounded m.size a k) refl
-      ∙ ap (λ s. result_and (bounded s a k) (sound n.cell a k)) agree.size
+      reads_by (check_run m.size a k) refl
+      ∙ ap (λ s. result_and (check_run s a k) (first_fault n.cell a k)) agree.size
 
-  pub agree_writes : answer m a k ≡ answer n a k
-  agree_writes = agree_reads
+  pub agree_writes : write_answer m a k ≡ write_answer n a k
+  agree_writes = writes_as_reads m a k ∙ agree_reads ∙ sym (writes_as_reads n a k)
 
 module _ (m n : Meaning) (agree : Agree m n) (a : ℕ) where
-  delivered_by : (b : List ℕ) (r : Result (Unit {0}) Fault) → answer m a (length b) ≡ r → cond (is_ok r) (bytes m.cell a (length b)) b ≡ cond (is_ok r) (bytes n.cell a (length b)) b
+  delivered_by : (b : List ℕ) (r : Result (Unit {0}) Fault) → read_answer m a (length b) ≡ r → cond (is_ok r) (bytes m.cell a (length b)) b ≡ cond (is_ok r) (bytes n.cell a (length b)) b
   delivered_by b (Ok u) e = bytes_of_run m.cell n.cell a (length b) (inside m n agree a (length b) (accepted_taken m a (length b) e))
   delivered_by b (Err f) e = refl
 
   pub agree_delivered : (b : List ℕ) → delivered m a b ≡ delivered n a b
   agree_delivered b =
-      delivered_by b (answer m a (length b)) refl
+      delivered_by b (read_answer m a (length b)) refl
       ∙ ap (λ r. cond (is_ok r) (bytes n.cell a (length b)) b) (agree_reads m n agree a (length b))
 
   stored_agree : (bs : List ℕ) → Agree (stored m a bs) (stored n a bs)
@@ -109,7 +110,7 @@ module _ (m n : Meaning) (agree : Agree m n) (a : ℕ) where
   pub agree_left : (bs : List ℕ) → Agree (written m a bs) (written n a bs)
   agree_left bs =
       subst (λ r. Agree (written m a bs) (cond (is_ok r) (stored n a bs) n)) (agree_writes m n agree a (length bs))
-      (left_by bs (answer m a (length bs)))
+      (left_by bs (write_answer m a (length bs)))
 
 pub agreement : Agreement
 agreement = record {

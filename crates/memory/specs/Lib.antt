@@ -1,5 +1,6 @@
 pub mod Custom
 pub mod Fault
+pub mod Text
 pub mod Run
 pub mod Meaning
 pub mod Bytes

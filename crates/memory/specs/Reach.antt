@@ -1,6 +1,7 @@
 -- Calls as data, and the states that calls lead to. Assumes nothing.
 -- Linked R s cs t: the calls cs lead from the state s to the state t, each by the relation R
 -- Reached R s t: some calls do
+-- bytes_after f xs c: what the bytes xs are after the call c, where f says what they are after a write
 -- after_calls f x cs: what x becomes by the calls cs, one after the other, where f says what it becomes by one
 use Rattle.std.specs.Prelude.{◌≡◌, ℕ, List, [], ◌∷◌}
 
@@ -9,6 +10,11 @@ pub data Call : Type 0 where
   reading : ℕ → List ℕ → Call
   -- a write of these bytes at an address
   writing : ℕ → List ℕ → Call
+
+-- a read leaves them
+abbrev pub bytes_after : (List ℕ → ℕ → List ℕ → List ℕ) → List ℕ → Call → List ℕ
+bytes_after updated xs (reading a b) = xs
+bytes_after updated xs (writing a bs) = updated xs a bs
 
 unfoldable pub Linked : {S : Type 0} → (S → Call → S → Type 0) → S → List Call → S → Type 0
 Linked R s [] t = s ≡ t

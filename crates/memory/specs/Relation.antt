@@ -6,7 +6,7 @@
 use Rattle.std.specs.Prelude.{◌≡◌, ℕ, ◌<◌, List}
 use Rattle.memory.specs.declared.fault.Fault.{Fault}
 use Rattle.memory.specs.Meaning.{byte, fault, Meaning}
-use Rattle.memory.specs.Calls.{answer, delivered, written}
+use Rattle.memory.specs.Calls.{read_answer, write_answer, delivered, written}
 
 pub record Kept (m n : Meaning) : Type 0 where
   pub size : n.size ≡ m.size
@@ -21,7 +21,7 @@ pub record Agreement : Type 0 where
   pub same : (m : Meaning) → Agree m m
   pub back : (m n : Meaning) → Agree m n → Agree n m
   pub more : (m n o : Meaning) → Agree m n → Agree n o → Agree m o
-  pub reads : (m n : Meaning) → Agree m n → (a k : ℕ) → answer m a k ≡ answer n a k
-  pub writes : (m n : Meaning) → Agree m n → (a k : ℕ) → answer m a k ≡ answer n a k
+  pub reads : (m n : Meaning) → Agree m n → (a k : ℕ) → read_answer m a k ≡ read_answer n a k
+  pub writes : (m n : Meaning) → Agree m n → (a k : ℕ) → write_answer m a k ≡ write_answer n a k
   pub buffers : (m n : Meaning) → Agree m n → (a : ℕ) (b : List ℕ) → delivered m a b ≡ delivered n a b
   pub left : (m n : Meaning) → Agree m n → (a : ℕ) (bs : List ℕ) → Agree (written m a bs) (written n a bs)

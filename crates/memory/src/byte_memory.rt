@@ -2,8 +2,9 @@
 ghost use Rattle.std.specs.Prelude.{◌≡◌, ℕ, List, length, IfOk};
 ghost use Rattle.std.specs.Result.{result_map_both};
 ghost use Rattle.memory.specs.Bytes.{AllBytes, Over};
-ghost use Rattle.memory.specs.Calls.{answer, delivered, written, StandsAt};
+ghost use Rattle.memory.specs.Calls.{read_answer, write_answer, delivered, written, StandsAt};
 ghost use Rattle.memory.specs.Meaning.{Meaning, WellFormed};
+ghost use Rattle.memory.specs.Reach.{bytes_after};
 
 use crate::contract::Memory;
 use crate::fault::Fault;
@@ -22,11 +23,11 @@ pub trait LineFormat {
 
     // Where the cells of a run stand in the bytes, one after the other, or the refusal of the run.
     fn find(lent: &[u8], a: u64, n: usize) -> Result<usize, Fault>
-        ensures answer { result_map_both (λ _. tt) (λ f. f) result ≡ answer (meaning lent.now) a n }
+        ensures answer { result_map_both (λ _. tt) (λ f. f) result ≡ read_answer (meaning lent.now) a n }
         ensures cells { IfOk result (StandsAt (meaning lent.now) lent.now a n) };
 
     fn write(lent: &mut [u8], a: u64, bytes: &[u8]) -> Result<(), Fault>
-        ensures answer { result ≡ answer (meaning lent.old) a (length bytes.now) }
+        ensures answer { result ≡ write_answer (meaning lent.old) a (length bytes.now) }
         ensures lent { lent.new ≡ updated lent.old a bytes.now }
         ensures meaning { meaning lent.new ≡ written (meaning lent.old) a bytes.now }
         ensures bytes { AllBytes lent.new };
@@ -54,7 +55,7 @@ impl<'a, F: LineFormat> ByteMemory<'a, F> {
 
     // A read of the bytes, which it leaves as they are. Apart from `read`, since what is lent from behind a `&mut self` comes back unknown.
     fn fetch(&self, a: u64, buffer: &mut [u8]) -> Result<(), Fault>
-        ensures answer { result ≡ answer (F.meaning self.now.bytes.now) a (length buffer.old) }
+        ensures answer { result ≡ read_answer (F.meaning self.now.bytes.now) a (length buffer.old) }
         ensures buffer { buffer.new ≡ delivered (F.meaning self.now.bytes.now) a buffer.old }
     {
         let n = buffer.len();
@@ -71,10 +72,7 @@ impl<F: LineFormat> Memory for ByteMemory<'_, F> {
 
     ghost formed = { λ m c. F.formed m.bytes.now c };
 
-    // A read leaves every borrowed byte.
-    ghost read_state = { λ before a buffer after. Over after.bytes before.bytes.now before.bytes };
-
-    ghost write_state = { λ before a bs after. Over after.bytes (F.updated before.bytes.now a bs) before.bytes };
+    ghost step = { λ before call after. Over after.bytes (bytes_after F.updated before.bytes.now call) before.bytes };
 
     fn size(&self) -> u64 {
         F::size(self.bytes)

@@ -1,7 +1,8 @@
 // The contract of a memory: three calls, which every memory answers alike.
-ghost use Rattle.std.specs.Prelude.{◌≡◌, ℕ, List, length};
+ghost use Rattle.std.specs.Prelude.{◌≡◌, length};
 ghost use Rattle.memory.specs.Meaning.{Meaning, WellFormed};
-ghost use Rattle.memory.specs.Calls.{answer, delivered, written};
+ghost use Rattle.memory.specs.Calls.{read_answer, write_answer, delivered, written};
+ghost use Rattle.memory.specs.Reach.{Call, reading, writing};
 
 use crate::fault::Fault;
 
@@ -14,11 +15,8 @@ pub trait Memory {
     // is another fact for each memory.
     ghost coherent: { Self → Type 0 };
 
-    // What a read at an address, into a buffer that held these bytes, does to the state itself, beyond the meaning.
-    ghost read_state: { Self → ℕ → List ℕ → Self → Type 0 };
-
-    // What a write of these bytes at an address does to the state itself, beyond the meaning.
-    ghost write_state: { Self → ℕ → List ℕ → Self → Type 0 };
+    // What a call does to the state itself, beyond the meaning: the state before, the call, the state after.
+    ghost step: { Self → Call → Self → Type 0 };
 
     fn size(&self) -> u64
         requires { coherent self.now }
@@ -27,19 +25,19 @@ pub trait Memory {
     // Fills the buffer from the cells at `a`, or refuses and leaves the buffer.
     fn read(&mut self, a: u64, buffer: &mut [u8]) -> Result<(), Fault>
         requires { coherent self.old }
-        ensures answer { result ≡ answer (meaning self.old) a (length buffer.old) }
+        ensures answer { result ≡ read_answer (meaning self.old) a (length buffer.old) }
         ensures buffer { buffer.new ≡ delivered (meaning self.old) a buffer.old }
         ensures meaning { meaning self.new ≡ meaning self.old }
         ensures coherent { coherent self.new }
-        ensures state { read_state self.old a buffer.old self.new };
+        ensures step { step self.old (reading a buffer.old) self.new };
 
     // Puts the bytes into the cells at `a`, or refuses and changes none.
     fn write(&mut self, a: u64, bytes: &[u8]) -> Result<(), Fault>
         requires { coherent self.old }
-        ensures answer { result ≡ answer (meaning self.old) a (length bytes.now) }
+        ensures answer { result ≡ write_answer (meaning self.old) a (length bytes.now) }
         ensures meaning { meaning self.new ≡ written (meaning self.old) a bytes.now }
         ensures coherent { coherent self.new }
-        ensures state { write_state self.old a bytes.now self.new };
+        ensures step { step self.old (writing a bytes.now) self.new };
 
     // The law that every memory proves: a coherent memory has a well-formed meaning.
     ghost formed: { (m : Self) → coherent m → WellFormed (meaning m) };

@@ -4,14 +4,14 @@
 use Rattle.std.specs.Prelude.{ℕ, ◌/◌, cond, List, length, is_ok, slice_index}
 use Rattle.std.proofs.Common.{arith}
 use Rattle.memory.specs.Bytes.{overlaid, AllBytes}
-use Rattle.memory.specs.Meaning.{Meaning, byte, cells, WellFormed}
-use Rattle.memory.specs.Calls.{answer}
+use Rattle.memory.specs.Meaning.{Meaning, byte, capacity, WellFormed}
+use Rattle.memory.specs.Calls.{write_answer}
 
 abbrev pub holding : List ℕ → Meaning
-holding bytes = record { size = cells (length bytes / 128); cell = λ i. byte (slice_index bytes i) }
+holding bytes = record { size = capacity (length bytes / 128); cell = λ i. byte (slice_index bytes i) }
 
 abbrev pub updated : List ℕ → ℕ → List ℕ → List ℕ
-updated bytes a bs = cond (is_ok (answer (holding bytes) a (length bs))) (overlaid bytes a bs) bytes
+updated bytes a bs = cond (is_ok (write_answer (holding bytes) a (length bs))) (overlaid bytes a bs) bytes
 
 pub well_formed : (xs : List ℕ) → AllBytes xs → WellFormed (holding xs)
 well_formed xs low = record {

@@ -1,10 +1,11 @@
-// The column of all prices: laid down, read back and added up.
+// The column of all prices: written as records, read back and added up.
 ghost use Rattle.std.specs.Prelude.{◌≡◌, IfOk};
-ghost use Rattle.records.specs.Column.{laying, laid, surveyed, totalled, readables};
+ghost use Rattle.memory.specs.Reach.{Linked, Reached};
+ghost use Rattle.memory.specs.Relation.{Kept};
+ghost use Rattle.records.specs.Column.{records_answer, records_written, record_writes, prices_read, total, readable};
 
 use crate::price::{read_price, record_of};
-use memory::contract::Memory;
-use memory::fault::Fault;
+use memory::{Fault, Memory};
 use std::alloc::{AllocError, Global};
 use units::LINE;
 
@@ -12,12 +13,14 @@ use units::LINE;
 pub type Reading = Result<u32, Fault>;
 
 // Writes one record for each price, from address 0 on, up to the first that is refused.
-#[tactic(auto, using(crate::proofs::Columns::laying_refused))]
-pub fn lay_down<M: Memory>(memory: &mut M, prices: &[u32]) -> Result<(), Fault>
+pub fn write_records<M: Memory>(memory: &mut M, prices: &[u32]) -> Result<(), Fault>
     requires { M.coherent memory.old }
-    ensures answer { result ≡ laying (M.meaning memory.old) 0 prices.now }
-    ensures meaning { M.meaning memory.new ≡ laid (M.meaning memory.old) prices.now }
+    ensures answer { result ≡ records_answer (M.meaning memory.old) 0 prices.now }
+    ensures meaning { M.meaning memory.new ≡ records_written (M.meaning memory.old) prices.now }
+    ensures kept { Kept (M.meaning memory.old) (M.meaning memory.new) }
     ensures coherent { M.coherent memory.new }
+    ensures calls { Linked M.step memory.old (record_writes (M.meaning memory.old) 0 prices.now) memory.new }
+    ensures reached { Reached M.step memory.old memory.new }
 {
     for (index, price) in prices.iter().enumerate() {
         memory.write(index as u64 * LINE, &record_of(*price))?;
@@ -26,16 +29,17 @@ pub fn lay_down<M: Memory>(memory: &mut M, prices: &[u32]) -> Result<(), Fault>
 }
 
 // Reads the prices of the first `count` records.
-#[tactic(auto, using(crate::proofs::Columns::surveyed_more), unfolding(crate::specs::Column::surveyed))]
-pub fn survey<M: Memory>(
+#[tactic(auto, using(crate::proofs::Columns::prices_read_more, memory::proofs::Reaches::reached_none, memory::proofs::Reaches::reached_more), unfolding(crate::specs::Column::prices_read))]
+pub fn read_prices<M: Memory>(
     heap: Global,
     memory: &mut M,
     count: u32,
 ) -> Result<Vec<Reading>, AllocError>
     requires { M.coherent memory.old }
-    ensures made { IfOk result (λ v. v.items ≡ surveyed (M.meaning memory.old) count) }
+    ensures made { IfOk result (λ v. v.items ≡ prices_read (M.meaning memory.old) count) }
     ensures meaning { M.meaning memory.new ≡ M.meaning memory.old }
     ensures coherent { M.coherent memory.new }
+    ensures reached { Reached M.step memory.old memory.new }
 {
     let mut readings = Vec::new(heap);
     // A loop: tried as a chain, and no proof says what the memory means after a closure that borrows it.
@@ -46,9 +50,9 @@ pub fn survey<M: Memory>(
 }
 
 // The total of the column, or the first refusal in it.
-#[tactic(auto, unfolding(crate::specs::Column::totalled))]
+#[tactic(auto, unfolding(crate::specs::Column::total))]
 pub fn total(readings: &[Reading]) -> Result<u128, Fault>
-    ensures { result ≡ totalled readings.now }
+    ensures { result ≡ total readings.now }
 {
     let mut sum = 0;
     for reading in readings {
@@ -59,7 +63,7 @@ pub fn total(readings: &[Reading]) -> Result<u128, Fault>
 
 // How many records brought a price.
 pub fn readable(readings: &[Reading]) -> usize
-    ensures { result ≡ readables readings.now }
+    ensures { result ≡ readable readings.now }
 {
     readings.iter().filter(|reading| reading.is_ok()).count()
 }

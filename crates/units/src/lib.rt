@@ -5,4 +5,4 @@ mod power;
 mod size;
 
 pub use power::is_power_of_two;
-pub use size::{LINE, PAGE, WORD};
+pub use size::{CHECKED_LINE, LINE, PAGE, WORD};

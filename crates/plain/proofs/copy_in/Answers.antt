@@ -4,14 +4,14 @@ use borrow.Rule.Slice.PartMut.{put_mid}
 use Rattle.memory.specs.Bytes.{overlaid}
 use Rattle.memory.proofs.Overlays.{overlaid_part}
 use Rattle.plain.specs.Plain.{holding}
-use Rattle.plain.proofs.Plains.{inside, write_bytes, write_meaning}
+use Rattle.plain.proofs.Plains.{write_inside, write_bytes, write_meaning}
 use Rattle.plain.proofs.copy_in.Goals as goal
 
 pub overflow_add-at : goal.overflow_add-at
-overflow_add-at c = record { fits = omega (arith, inside c.args.lent.now c.args.a (length c.args.bytes.now) c.requires) }
+overflow_add-at c = record { fits = omega (arith, write_inside c.args.lent.now c.args.a (length c.args.bytes.now) c.requires) }
 
 pub slice_bounds-copy_from_slice-end : goal.slice_bounds-copy_from_slice-end
-slice_bounds-copy_from_slice-end c = omega (arith, inside c.args.lent.now c.args.a (length c.args.bytes.now) c.requires)
+slice_bounds-copy_from_slice-end c = omega (arith, write_inside c.args.lent.now c.args.a (length c.args.bytes.now) c.requires)
 
 pub returns : goal.returns
 returns c =

@@ -4,4 +4,4 @@ use Rattle.plain.proofs.Plains.{stands}
 use Rattle.plain.proofs.CellsAloneLineFormat.find.Goals as goal
 
 pub returns-clause-cells : goal.returns-clause-cells
-returns-clause-cells c = stands c.args.lent.now c.args.a c.args.n (sym c.admit.ensures ∙ c.in_ok-admit.was)
+returns-clause-cells c = stands c.args.lent.now c.args.a c.args.n (sym c.answer.ensures.read ∙ c.in_ok-answer.was)
