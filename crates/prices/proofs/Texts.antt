@@ -7,8 +7,8 @@ use Rattle.std.specs.Option.{MatchOption, unwrap_or}
 use Rattle.std.specs.List.{All, onto_first, IsFirstMatchOrLen}
 use Rattle.std.proofs.lemmas.Bool.{eqb-true, cases_lt}
 use Rattle.std.proofs.lemmas.Grind.{common_steps}
-use Rattle.prices.specs.declared.InputError.{InputError}
-use Rattle.prices.specs.declared.InputError.TheVariants.{NoPrices, NoMemory}
+use Rattle.prices.specs.declared.error.InputError.{InputError}
+use Rattle.prices.specs.declared.error.InputError.TheVariants.{NoPrices, NoMemory}
 use Rattle.prices.specs.Prices.{lines, line_read, with_price, prices_from, prices, Told}
 
 abbrev NoFeed : ℕ → Type 0

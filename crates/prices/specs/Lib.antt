@@ -1,1 +1,2 @@
 pub mod Prices
+pub mod Text

@@ -1,6 +1,6 @@
 use Rattle.std.proofs.Common.{◌≡◌, ◌^◌, ◌<◌, drop}
 use Rattle.prices.specs.Prices.{numeral}
-use Rattle.prices.proofs.value_of.Given as goal
+use Rattle.prices.proofs.list.value_of.Given as goal
 
 -- The value so far, with the digits that are left, brings the whole.
 abbrev pub invariant-loop-digit : goal.invariant-loop-digit

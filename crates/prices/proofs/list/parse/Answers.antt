@@ -5,7 +5,7 @@ use Rattle.std.proofs.lemmas.List.Sorted.{answers_always}
 use Rattle.std.proofs.lemmas.Slice.Eq.{strip_suffix_is}
 use Rattle.std.proofs.lemmas.Grind.{common_steps}
 use Rattle.prices.proofs.Texts.{before_push, first_price, told, read_most}
-use Rattle.prices.proofs.parse.Goals as goal
+use Rattle.prices.proofs.list.parse.Goals as goal
 
 pub returns-in_err-read_line : goal.returns-in_err-read_line
 returns-in_err-read_line c =

@@ -3,7 +3,7 @@ use Rattle.std.specs.Slice.Iter.{split_inclusive_rest}
 use Rattle.std.specs.Iterator.Adapters.{zip_first, zip_second}
 use Rattle.prices.specs.Prices.{lines, prices_from, prices}
 use Rattle.prices.proofs.Texts.{before}
-use Rattle.prices.proofs.parse.Given as goal
+use Rattle.prices.proofs.list.parse.Given as goal
 
 -- The prices so far and those of the rest are those of the text.
 abbrev pub invariant-loop-number : goal.invariant-loop-number
