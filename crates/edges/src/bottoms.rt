@@ -3,10 +3,8 @@ ghost use Rattle.std.specs.Prelude.{◌≡◌, [], ◌∷◌};
 ghost use Rattle.plain.specs.Plain.{updated};
 
 use crate::suite::edges;
-use checked::Checked;
-use checked::chip::flip;
-use memory::contract::Memory;
-use memory::fault::{Cause, Fault};
+use checked::{Checked, flip};
+use memory::{Cause, Fault, Memory};
 use plain::Plain;
 use std::test::Fail;
 

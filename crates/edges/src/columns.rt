@@ -1,16 +1,15 @@
 // A column that is longer than its memory.
-use memory::fault::{Cause, Fault};
+use memory::{Cause, Fault};
 use plain::Plain;
-use records::column::{lay_down, readable, survey, total};
-use records::price::write_price;
+use records::{read_prices, readable, total, write_price, write_records};
 use std::test::Fail;
 
 #[test]
 fn three_records_in_two_lines(rt: HostRuntime) -> Result<(), Fail> {
     let mut bytes = [0; 300];
     let mut memory = Plain::new(&mut bytes);
-    let put = lay_down(&mut memory, &[4_294_967_295, 7, 9]);
-    let readings = survey(rt.alloc(), &mut memory, 3)?;
+    let put = write_records(&mut memory, &[4_294_967_295, 7, 9]);
+    let readings = read_prices(rt.alloc(), &mut memory, 3)?;
     assert_eq!(rt; put, Err(Fault::here(Cause::PastEnd, 256)));
     assert!(rt; readings.len() == 3);
     assert_eq!(rt; readings[0], Ok(4_294_967_295));
@@ -25,10 +24,10 @@ fn three_records_in_two_lines(rt: HostRuntime) -> Result<(), Fail> {
 fn a_total_past_32_bits(rt: HostRuntime) -> Result<(), Fail> {
     let mut bytes = [0; 256];
     let mut memory = Plain::new(&mut bytes);
-    let put = lay_down(&mut memory, &[4_294_967_295, 1]);
+    let put = write_records(&mut memory, &[4_294_967_295, 1]);
     let new = write_price(&mut memory, 1, 4_294_967_295);
     let far = write_price(&mut memory, 2, 1);
-    let readings = survey(rt.alloc(), &mut memory, 2)?;
+    let readings = read_prices(rt.alloc(), &mut memory, 2)?;
     assert_eq!(rt; put, Ok(()));
     assert_eq!(rt; new, Ok(()));
     assert_eq!(rt; far, Err(Fault::here(Cause::PastEnd, 264)));

@@ -1,5 +1,5 @@
 // The prices of a dense line, and their total.
-use dense::{line_total, price_at};
+use records::{line_total, price_at};
 
 #[test]
 fn prices_of_a_dense_line(rt: HostRuntime) {

@@ -1,19 +1,18 @@
 // Faults on their way up, and the numbers of causes.
-use memory::custom::CustomCause;
-use memory::fault::{Cause, Fault};
+use memory::{Cause, CustomCause, Fault};
 use std::test::Fail;
 
 #[test]
 fn depth_stops_at_255(rt: HostRuntime) {
     let mut fault = Fault::here(Cause::PageOut, 77);
     for _ in 0..254 {
-        fault = fault.raised();
+        fault = fault.passed_up();
     }
     assert_eq!(rt; fault.depth, 254);
-    assert_eq!(rt; fault.raised().depth, 255);
-    assert_eq!(rt; fault.raised().raised().depth, 255);
-    assert_eq!(rt; fault.raised().place, 77);
-    assert_eq!(rt; fault.raised().cause.number(), 5);
+    assert_eq!(rt; fault.passed_up().depth, 255);
+    assert_eq!(rt; fault.passed_up().passed_up().depth, 255);
+    assert_eq!(rt; fault.passed_up().place, 77);
+    assert_eq!(rt; fault.passed_up().cause.number(), 5);
 }
 
 #[test]

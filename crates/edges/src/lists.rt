@@ -12,17 +12,18 @@ fn refused(heap: Global, text: &[u8], error: InputError) -> Result<(), Fail> {
 fn bad_lists(rt: HostRuntime) -> Result<(), Fail> {
     let heap = rt.alloc();
     refused(heap, b"", InputError::NoPrices)?;
-    refused(heap, b"\n", InputError::NotANumber(1))?;
-    refused(heap, b"12\n\n13\n", InputError::NotANumber(2))?;
-    refused(heap, b"12\n1 3\n", InputError::NotANumber(2))?;
-    refused(heap, b"12\n-3\n", InputError::NotANumber(2))?;
+    refused(heap, b"\n", InputError::EmptyLine(1))?;
+    refused(heap, b"12\n\n13\n", InputError::EmptyLine(2))?;
+    refused(heap, b"12\n1 3\n", InputError::NotADigit(2, b' '))?;
+    refused(heap, b"12\n-3\n", InputError::NotADigit(2, b'-'))?;
+    refused(heap, b"12\r\n", InputError::NotADigit(1, b'\r'))?;
     refused(heap, b"1\n2\n4294967296\n", InputError::TooLarge(3))?;
     refused(
         heap,
         b"99999999999999999999999999999999\n",
         InputError::TooLarge(1),
     )?;
-    refused(heap, b"9999999999999999999x\n", InputError::NotANumber(1))
+    refused(heap, b"9999999999999999999x\n", InputError::NotADigit(1, b'x'))
 }
 
 #[test]

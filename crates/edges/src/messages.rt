@@ -1,8 +1,7 @@
 // What is written of each cause, of a fault, of each refusal, and of each error in a list.
 use expect::same;
-use mapping::refusal::{ArmingRefusal, RegisterRefusal};
-use memory::custom::CustomCause;
-use memory::fault::{Cause, Fault};
+use mapping::{ArmingRefusal, RegisterRefusal};
+use memory::{Cause, CustomCause, Fault};
 use prices::InputError;
 use std::alloc::Global;
 use std::fmt::Display;
@@ -31,7 +30,7 @@ fn causes(rt: HostRuntime) -> Result<(), Fail> {
         Cause::Custom(custom),
         "a cause of an added memory (cause 200)",
     )?;
-    let fault = Fault::here(Cause::Blank, 8).raised();
+    let fault = Fault::here(Cause::Blank, 8).passed_up();
     assert_eq!(rt;
         fault.to_string(heap)?.as_str(),
         "blank (cause 3), depth 1, place 8"
@@ -47,10 +46,21 @@ fn errors(rt: HostRuntime) -> Result<(), Fail> {
         InputError::NoPrices,
         "line 1: there is no price at all",
     )?;
+    says(heap, InputError::EmptyLine(3), "line 3: the line is empty")?;
     says(
         heap,
-        InputError::NotANumber(12),
-        "line 12: this is no decimal number",
+        InputError::NotADigit(12, b','),
+        "line 12: ',' (byte 44) is no digit",
+    )?;
+    says(
+        heap,
+        InputError::NotADigit(1, b'\r'),
+        "line 1: a carriage return (byte 13) is no digit",
+    )?;
+    says(
+        heap,
+        InputError::NotADigit(2, 200),
+        "line 2: byte 200 is no digit",
     )?;
     says(
         heap,

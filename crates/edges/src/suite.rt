@@ -1,7 +1,6 @@
 // What every memory answers at the edges of its addresses. Each memory of the library runs it.
 use expect::same;
-use memory::contract::Memory;
-use memory::fault::{Cause, Fault};
+use memory::{Cause, Fault, Memory};
 use std::test::Fail;
 
 const LAST: u64 = u64::MAX;
