@@ -21,8 +21,8 @@ pub trait Addressing: RegisterRecord {
     fn grain(&self) -> u64
         ensures { result ≡ Self.rules.grain (Self.values self.now) };
 
-    // Where a byte of the image stands in the data, or nothing. Only registers that arm are known to place it below 2^64. That the byte
-    // is inside the image each mapping tests itself: a call may ask that it is given what has armed, and nothing of an address.
+    // Where a byte of the image stands in the data, or nothing. Registers that have armed divide by no 0 and place it below 2^64. That
+    // the byte is inside the image each mapping tests itself: a call may ask that it is given what has armed, and nothing of an address.
     fn place(&self, s: WindowAddress) -> Option<PseudoVirtualAddress>
         requires { ArmedValues Self.rules (Self.values self.now) }
         ensures { option_map (λ v. v.0) result ≡ placed Self.rules (Self.values self.now) s.0 };

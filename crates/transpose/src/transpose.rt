@@ -1,8 +1,8 @@
 // Transpose: a matrix that lies row by row in the data, column by column in the image.
-ghost use Rattle.std.specs.Prelude.{◌≡◌, ◌^◌, ◌<◌, refl};
+ghost use Rattle.std.specs.Prelude.{◌≡◌, ◌<◌, refl};
 ghost use Rattle.mapping.specs.Registers.{Fits};
 ghost use Rattle.mapping.proofs.Laws.{lawful};
-ghost use Rattle.transpose.specs.Transpose.{transpose_rules, values, address};
+ghost use Rattle.transpose.specs.Transpose.{transpose_rules, values};
 ghost use Rattle.transpose.specs.Laws.{addressed};
 
 use mapping::{
@@ -45,20 +45,6 @@ impl TransposeRegisters {
     {
         let row_count = self.row_count.get();
         (row_count - 1) * self.row_size.get() + self.common.image_size() / row_count
-    }
-
-    // The place of a byte. Only registers that arm are known to keep it below 2^64.
-    fn address(&self, s: u64) -> u64
-        requires element_size { 0 < self.now.element_size.value }
-        requires row_count { 0 < self.now.row_count.value }
-        requires low { address self.now.element_size.value self.now.row_size.value self.now.row_count.value s < 2 ^ 64 }
-        ensures { result ≡ address self.now.element_size.value self.now.row_size.value self.now.row_count.value s }
-    {
-        let element_size = self.element_size.get();
-        let row_count = self.row_count.get();
-        let element = s / element_size;
-        let start = element % row_count * self.row_size.get() + element / row_count * element_size;
-        start + s % element_size
     }
 }
 
@@ -116,7 +102,11 @@ impl Addressing for TransposeRegisters {
         if s >= self.common.image_size() {
             return None;
         }
-        Some(PseudoVirtualAddress(self.address(s)))
+        let element_size = self.element_size.get();
+        let row_count = self.row_count.get();
+        let element = s / element_size;
+        let start = element % row_count * self.row_size.get() + element / row_count * element_size;
+        Some(PseudoVirtualAddress(start + s % element_size))
     }
 }
 
