@@ -1,6 +1,7 @@
 #!/bin/sh
-# Shows that a build refuses programs that misuse register sets and addresses, and accepts one of the same shape.
-# The programs are put together in a temporary folder, beside a copy of the libraries that they use, and checked there.
+# Shows that a build refuses programs that misuse register sets and addresses, and mappings of others that break a rule which all
+# mappings keep; and that it accepts a program and a mapping of the same shape.
+# They are put together in a temporary folder, beside a copy of the libraries that they use, and checked there.
 set -u
 cd "$(dirname "$0")/.." || exit 2
 work=$(mktemp -d) || exit 2
@@ -24,11 +25,8 @@ program() {
     cat >"$work/crates/$1/src/lib.rt" <<PROGRAM
 #![tactic(auto)]
 
-use mapping::address::MemoryAddress;
-use mapping::address::WindowAddress;
-use mapping::contract::Mapping;
-use mapping::set::RegisterSet;
-use stride::stride::Stride;
+use mapping::{Mapping, MemoryAddress, RegisterSet, WindowAddress};
+use stride::Stride;
 
 pub fn program() -> u64 {
     let mut set = RegisterSet::<Stride>::new();
@@ -39,8 +37,28 @@ pub fn program() -> u64 {
 PROGRAM
 }
 
+# mapping NAME EDIT: a mapping of another crate, the stride mapping with the type number 200, and then changed by EDIT, a line of sed
+mapping() {
+    cp -R crates/stride "$work/crates/$1"
+    rm -rf "$work/crates/$1/out" "$work/crates/$1/must-fail"
+    echo "$1: units mapping" >>"$work/crates.txt"
+    sed -i -e "s/Rattle\.stride\./Rattle.$1./" -e 's/const TYPE: u8 = 3/const TYPE: u8 = 200/' -e 's/TYPE = { 3 }/TYPE = { 200 }/' \
+        -e 's/type_number = 3;/type_number = 200;/' -e "$2" "$work/crates/$1"/s*/*.rt "$work/crates/$1"/specs/*.antt
+}
+
 checked() {
     (cd "$work/crates/$1" && rt check) >"$work/$1.log" 2>&1
+}
+
+# accepted NAME WORDS: the checker proves NAME
+accepted() {
+    if checked "$1"; then
+        echo "refused builds: ok, $2 is accepted"
+    else
+        echo "refused builds: FAILED: $2 is refused:"
+        grep -m 5 'error\|not proved\|no proof' "$work/$1.log"
+        failed=1
+    fi
 }
 
 # refused NAME ERROR WORDS: the checker turns NAME away, and says ERROR
@@ -57,19 +75,19 @@ refused() {
     fi
 }
 
-program accepted '
+program used '
     match answer {
         Ok(armed) => {
             let mapping = armed.into_mapping();
             let _ = mapping.place(WindowAddress(4));
-            mapping.image()
+            mapping.image_size()
         }
         Err(_) => 0,
     }'
 program written '
     let _ = set.write(1, 5);
     match answer {
-        Ok(armed) => armed.into_mapping().image(),
+        Ok(armed) => armed.into_mapping().image_size(),
         Err(_) => 0,
     }'
 program twice '
@@ -77,33 +95,34 @@ program twice '
         Ok(armed) => {
             let first = armed.into_mapping();
             let second = armed.into_mapping();
-            first.image() / 2 + second.image() / 2
+            first.image_size() / 2 + second.image_size() / 2
         }
         Err(_) => 0,
     }'
 program unarmed '
     let other = RegisterSet::<Stride>::new();
     let _ = answer;
-    other.into_mapping().image()'
+    other.into_mapping().image_size()'
 program address '
     match answer {
         Ok(armed) => {
             let mapping = armed.into_mapping();
             let _ = mapping.place(MemoryAddress(4));
-            mapping.image()
+            mapping.image_size()
         }
         Err(_) => 0,
     }'
 
-if checked accepted; then
-    echo "refused builds: ok, a set that is written, armed and used once is accepted"
-else
-    echo "refused builds: FAILED: a set that is written, armed and used once is refused:"
-    grep -m 5 'error\|not proved\|no proof' "$work/accepted.log"
-    failed=1
-fi
+mapping third ''
+mapping wide 's/widths = 32/widths = 40/'
+mapping colours 's/TYPE: u8 = 200/TYPE: u8 = 2/; s/TYPE = { 200 }/TYPE = { 2 }/'
+
+accepted used 'a set that is written, armed and used once'
+accepted third 'a mapping of another crate'
 refused written 'borrow-e0382' 'a register written after arming'
 refused twice 'borrow-e0382' 'an armed set used twice'
 refused unarmed 'unknown-method' 'a mapping taken from an unarmed set'
 refused address 'mismatched-types' 'a memory address where a window address is due'
+refused wide 'error: `shared-value`' 'a mapping with an image size of 40 bits'
+refused colours 'error: `numbered-value`' 'a mapping whose type constant is not the type number of its rules'
 exit $failed

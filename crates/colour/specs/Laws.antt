@@ -5,14 +5,15 @@ use Rattle.std.proofs.Math.Nat.{mul-mod_left, mod-mod_of_dvd, mod-eq-zero_of_dvd
 use Rattle.std.proofs.lemmas.Nat.{div-mul-add, mod-mul-add, mod_below, mul-le, div-add-mod'}
 use Rattle.std.proofs.lemmas.Bool.{and_parts, and_from, and_left, and_right, leb-true, eqb-true, ltb-true, le-leb, lt-leb, lt-ltb, le-ltb, cond-true, cond-false, cases_lt, cases_Bool}
 use Rattle.std.specs.Option.{option_map}
-use Rattle.mapping.specs.Rules.{image, divides, power}
-use Rattle.mapping.proofs.Laws.{Armed, Addressed}
+use Rattle.mapping.specs.Rules.{image_size, divides}
+use Rattle.mapping.proofs.Laws.{Tested, Addressed}
 use Rattle.mapping.proofs.Multiples.{times_multiple, multiple_trans, multiple_room, skip_multiple, quotient_below, rows_apart, split_apart}
+use Rattle.units.specs.Power.{is_power_of_two}
 use Rattle.units.proofs.Powers.{power_divides, power_pow}
-use Rattle.colour.specs.Colour.{address, extent, meets, way, size, offset, colour_rules}
+use Rattle.colour.specs.Colour.{address, extent, condition, way_size, colour_size, colour_offset, colour_rules}
 
 -- what the condition tells: way, colour and offset are whole lines, and whole ways fill the image
-record Met (I W C F : ℕ) : Type 0 where
+record Conditioned (I W C F : ℕ) : Type 0 where
   some : 0 < W
   way : W % 128 ≡ 0
   size : C % 128 ≡ 0
@@ -21,17 +22,17 @@ record Met (I W C F : ℕ) : Type 0 where
   whole : I % W ≡ 0
 
 -- a power of two of at least a page is whole lines
-lines : (n : ℕ) → power n ≡ true → 4096 ≤ n → n % 128 ≡ 0
+lines : (n : ℕ) → is_power_of_two n ≡ true → 4096 ≤ n → n % 128 ≡ 0
 lines n one large = power_divides 128 n (power_pow 7) one (omega arith)
 
-met : (I W C F : ℕ) → meets I W C F ≡ true → Met I W C F
-met I W C F passed =
-    let a = and_parts (power W && nat_le 4096 W && power C && nat_le 4096 C && divides 4096 F && nat_le (F + C) W) (divides W I) passed in
-    let b = and_parts (power W && nat_le 4096 W && power C && nat_le 4096 C && divides 4096 F) (nat_le (F + C) W) a.0 in
-    let c = and_parts (power W && nat_le 4096 W && power C && nat_le 4096 C) (divides 4096 F) b.0 in
-    let d = and_parts (power W && nat_le 4096 W && power C) (nat_le 4096 C) c.0 in
-    let e = and_parts (power W && nat_le 4096 W) (power C) d.0 in
-    let f = and_parts (power W) (nat_le 4096 W) e.0 in
+conditioned : (I W C F : ℕ) → condition I W C F ≡ true → Conditioned I W C F
+conditioned I W C F passed =
+    let a = and_parts (is_power_of_two W && nat_le 4096 W && is_power_of_two C && nat_le 4096 C && divides 4096 F && nat_le (F + C) W) (divides W I) passed in
+    let b = and_parts (is_power_of_two W && nat_le 4096 W && is_power_of_two C && nat_le 4096 C && divides 4096 F) (nat_le (F + C) W) a.0 in
+    let c = and_parts (is_power_of_two W && nat_le 4096 W && is_power_of_two C && nat_le 4096 C) (divides 4096 F) b.0 in
+    let d = and_parts (is_power_of_two W && nat_le 4096 W && is_power_of_two C) (nat_le 4096 C) c.0 in
+    let e = and_parts (is_power_of_two W && nat_le 4096 W) (is_power_of_two C) d.0 in
+    let f = and_parts (is_power_of_two W) (nat_le 4096 W) e.0 in
     let large = leb-true 4096 W f.1 in
     record {
       some = omega arith;
@@ -63,11 +64,11 @@ shown W C F s v found =
     let z : ◌≡◌ {A = ℕ} 0 1 = cc in absurd (omega arith))
     (cases_Bool test)
 
-module _ (I W C F : ℕ) (m : Met I W C F) where
+module _ (I W C F : ℕ) (c : Conditioned I W C F) where
   within : (s v : ℕ) → s < I → address W C F s ≡ Some v → v < extent I W C
   within s v below found =
       let h = shown W C F s v found in
-      let count = quotient_below s I W m.some m.whole below in
+      let count = quotient_below s I W c.some c.whole below in
       let ways = mul-le (s / W + 1) C (I / W) C (omega arith) (omega arith) in
       omega (arith, add-mul (s / W) 1 C)
 
@@ -81,8 +82,8 @@ module _ (I W C F : ℕ) (m : Met I W C F) where
   -- the bytes of a line stand in one way
   split : (x i : ℕ) → x % 128 ≡ 0 → i < 128 → ((x + i) / W ≡ x / W) × ((x + i) % W ≡ x % W + i)
   split x i whole small =
-      let inner : x % W % 128 ≡ 0 = mod-mod_of_dvd 128 x (dvd_of_mod-eq-zero 128 m.way) ∙ whole in
-      let room = multiple_room (x % W) W 128 inner m.way (mod_below x W m.some) in
+      let inner : x % W % 128 ≡ 0 = mod-mod_of_dvd 128 x (dvd_of_mod-eq-zero 128 c.way) ∙ whole in
+      let room = multiple_room (x % W) W 128 inner c.way (mod_below x W c.some) in
       let rest : x % W + i < W = omega arith in
       let same : x + i ≡ x / W * W + (x % W + i) = omega (arith, div-add-mod' x W) in
       (ap (λ n. n / W) same ∙ div-mul-add (x / W) W (x % W + i) rest, ap (λ n. n % W) same ∙ mod-mul-add (x / W) W (x % W + i) rest)
@@ -90,10 +91,10 @@ module _ (I W C F : ℕ) (m : Met I W C F) where
   -- a line stands inside the colour or outside, since the colour is whole lines
   edges : (r i : ℕ) → r % 128 ≡ 0 → i < 128 → (nat_le F (r + i) && nat_lt (r + i) (F + C)) ≡ (nat_le F r && nat_lt r (F + C))
   edges r i whole small =
-      let end : (F + C) % 128 ≡ 0 = skip_multiple F C 128 m.offset ∙ m.size in
+      let end : (F + C) % 128 ≡ 0 = skip_multiple F C 128 c.offset ∙ c.size in
       ⊎_elim
       (λ early.
-      let room = multiple_room r F 128 whole m.offset early in
+      let room = multiple_room r F 128 whole c.offset early in
       let still : r + i < F = omega arith in
       and_left (nat_le F (r + i)) (nat_lt (r + i) (F + C)) (lt-leb F (r + i) still) ∙ sym (and_left (nat_le F r) (nat_lt r (F + C)) (lt-leb F r early)))
       (λ late.
@@ -113,7 +114,7 @@ module _ (I W C F : ℕ) (m : Met I W C F) where
 
   -- the start of a line is a whole number of lines into its way
   even : (k : ℕ) → k * 128 % W % 128 ≡ 0
-  even k = mod-mod_of_dvd 128 (k * 128) (dvd_of_mod-eq-zero 128 m.way) ∙ mul-mod_left k 128
+  even k = mod-mod_of_dvd 128 (k * 128) (dvd_of_mod-eq-zero 128 c.way) ∙ mul-mod_left k 128
 
   follows : (k i : ℕ) → i < 128 → address W C F (k * 128 + i) ≡ option_map (λ v. v + i) (address W C F (k * 128))
   follows k i small =
@@ -138,23 +139,23 @@ module _ (I W C F : ℕ) (m : Met I W C F) where
       let h = shown W C F (k * 128) v found in
       let q = k * 128 / W in
       let r = k * 128 % W in
-      let inner : (r - F) % 128 ≡ 0 = mod-eq-zero_of_dvd 128 (dvd-sub 128 (dvd_of_mod-eq-zero 128 (even k)) (dvd_of_mod-eq-zero 128 m.offset)) in
-      let whole : v % 128 ≡ 0 = sym (ap (λ n. n % 128) h.place) ∙ skip_multiple (q * C) (r - F) 128 (times_multiple q C 128 m.size) ∙ inner in
+      let inner : (r - F) % 128 ≡ 0 = mod-eq-zero_of_dvd 128 (dvd-sub 128 (dvd_of_mod-eq-zero 128 (even k)) (dvd_of_mod-eq-zero 128 c.offset)) in
+      let whole : v % 128 ≡ 0 = sym (ap (λ n. n % 128) h.place) ∙ skip_multiple (q * C) (r - F) 128 (times_multiple q C 128 c.size) ∙ inner in
       omega arith
 
-pub addressed : (rs : List ℕ) → Armed colour_rules rs → Addressed colour_rules rs
-addressed rs a =
-    let I = image rs in
-    let W = way rs in
-    let C = size rs in
-    let F = offset rs in
-    let m = met I W C F a.met in
+pub addressed : (rs : List ℕ) → Tested colour_rules rs → Addressed colour_rules rs
+addressed rs t =
+    let I = image_size rs in
+    let W = way_size rs in
+    let C = colour_size rs in
+    let F = colour_offset rs in
+    let c = conditioned I W C F t.condition in
     record {
-      power = power_pow 7;
-      least = lit≤ tt;
-      most = lit≤ tt;
-      within = within I W C F m;
-      apart = λ s t v _ _. apart I W C F m s t v;
-      follows = follows I W C F m;
-      line = line I W C F m;
+      grain_power = power_pow 7;
+      grain_least = lit≤ tt;
+      grain_most = lit≤ tt;
+      within = within I W C F c;
+      apart = λ s t v _ _. apart I W C F c s t v;
+      follows = follows I W C F c;
+      line = line I W C F c;
     }

@@ -1,87 +1,86 @@
 // Page colour: the data is spread over the image so that it meets one part, a colour, of each way of a cache.
 ghost use Rattle.std.specs.Prelude.{◌≡◌, ◌<◌, refl};
-ghost use Rattle.colour.specs.Colour.{colour_rules, held};
-ghost use Rattle.mapping.proofs.Laws;
-ghost use Rattle.colour.specs.Colour as SpecsColour;
+ghost use Rattle.mapping.specs.Registers.{Fits};
+ghost use Rattle.mapping.proofs.Laws.{lawful};
+ghost use Rattle.colour.specs.Colour.{colour_rules, values};
 ghost use Rattle.colour.specs.Laws.{addressed};
 
-use mapping::address::{PseudoVirtualAddress, WindowAddress};
-use mapping::armed::{Addressing, Armed};
-use mapping::contract::RegisterRecord;
-use mapping::refusal::RegisterRefusal;
-use mapping::register::Register;
-use units::{LINE, PAGE};
+use mapping::{
+    Addressing, ArmedRegisters, CommonRegisters, PseudoVirtualAddress, Register, RegisterRecord,
+    RegisterRefusal, WindowAddress,
+};
+use units::{LINE, PAGE, is_power_of_two};
 
 // Registers by name, each of its width. A list of numbers would be shorter to write by number, and lose both.
 #[derive(Drop)]
 pub struct ColourRegisters {
-    image: Register<32>,
-    table: Register<28>,
-    way: Register<32>,
-    colour: Register<32>,
-    offset: Register<32>,
+    common: CommonRegisters,
+    way_size: Register<32>,
+    colour_size: Register<32>,
+    colour_offset: Register<32>,
 }
 
 impl ColourRegisters {
-    // The mapping's own condition: the colour stands inside a way, and whole ways fill the image.
-    fn met(&self) -> bool
-        ensures { result ≡ colour_rules.condition (held self.now) }
+    // The colour stands inside a way, and whole ways fill the image.
+    fn condition(&self) -> bool
+        requires { Fits colour_rules.widths (values self.now) }
+        ensures { result ≡ colour_rules.condition (values self.now) }
     {
-        let way = self.way.get();
-        let colour = self.colour.get();
-        let offset = self.offset.get();
-        way.is_power_of_two()
-            && PAGE <= way
-            && colour.is_power_of_two()
-            && PAGE <= colour
+        let way_size = self.way_size.get();
+        let colour_size = self.colour_size.get();
+        let offset = self.colour_offset.get();
+        is_power_of_two(way_size)
+            && PAGE <= way_size
+            && is_power_of_two(colour_size)
+            && PAGE <= colour_size
             && offset % PAGE == 0
-            && offset + colour <= way
-            && self.image.get() % way == 0
+            && offset + colour_size <= way_size
+            && self.common.image_size() % way_size == 0
     }
 
     // The end of the last way's colour.
-    fn end(&self) -> u64
-        requires { 0 < self.now.way.value }
-        ensures { result ≡ colour_rules.extent (held self.now) }
+    fn extent(&self) -> u64
+        requires fit { Fits colour_rules.widths (values self.now) }
+        requires divisor { 0 < self.now.way_size.value }
+        ensures { result ≡ colour_rules.extent (values self.now) }
     {
-        let ways = self.image.get() / self.way.get();
-        ways * self.colour.get()
+        let ways = self.common.image_size() / self.way_size.get();
+        ways * self.colour_size.get()
     }
 }
 
 impl RegisterRecord for ColourRegisters {
     ghost rules = { colour_rules };
 
-    ghost held = { held };
+    ghost values = { values };
+
+    ghost shared = { refl };
 
     fn new() -> ColourRegisters {
         ColourRegisters {
-            image: Register::new(),
-            table: Register::new(),
-            way: Register::new(),
-            colour: Register::new(),
-            offset: Register::new(),
+            common: CommonRegisters::new(),
+            way_size: Register::new(),
+            colour_size: Register::new(),
+            colour_offset: Register::new(),
         }
     }
 
     fn write(&mut self, number: u64, value: u64) -> Result<(), RegisterRefusal> {
         match number {
-            0 => self.image.write(value),
-            1 => self.table.write(value),
-            2 => self.way.write(value),
-            3 => self.colour.write(value),
-            4 => self.offset.write(value),
-            _ => Err(RegisterRefusal::NoRegister),
+            2 => self.way_size.write(value),
+            3 => self.colour_size.write(value),
+            4 => self.colour_offset.write(value),
+            _ => self.common.write(number, value),
         }
     }
 
-    fn image(&self) -> u64 {
-        self.image.get()
+    fn common(&self) -> &CommonRegisters {
+        &self.common
     }
 
-    // As in each mapping with a condition: `end` asks what `met` found, so both are the record's own.
-    fn extent(&self) -> Option<u64> {
-        self.met().then(|| self.end())
+    // As in each mapping with a condition: `extent` asks what `condition` found, so both are the record's own.
+    fn checked_extent(&self) -> Option<u64> {
+        self.condition().then(|| self.extent())
     }
 }
 
@@ -92,14 +91,8 @@ impl Addressing for ColourRegisters {
 
     ghost numbered = { refl };
 
-    // One form in each mapping, by the laws of its own rules; `Laws.lawful` has what all share.
-    ghost laws = { λ r passed.
-        let rs = SpecsColour.held r in
-        Laws.lawful colour_rules rs passed r.image.fits r.table.fits (addressed rs (Laws.armed colour_rules rs passed)) };
-
-    fn table(&self) -> u64 {
-        self.table.get()
-    }
+    // One form in each mapping, by the laws of its own rules; `lawful` has what all share.
+    ghost laws = { λ r armed. lawful colour_rules (values r) refl armed (addressed (values r)) };
 
     fn grain(&self) -> u64 {
         LINE
@@ -107,18 +100,18 @@ impl Addressing for ColourRegisters {
 
     fn place(&self, s: WindowAddress) -> Option<PseudoVirtualAddress> {
         let WindowAddress(s) = s;
-        if s >= self.image.get() {
+        if s >= self.common.image_size() {
             return None;
         }
-        let colour = self.colour.get();
-        let offset = self.offset.get();
-        let way = self.way.get();
-        let inner = s % way;
-        if !(offset..offset + colour).contains(&inner) {
+        let way_size = self.way_size.get();
+        let colour_size = self.colour_size.get();
+        let offset = self.colour_offset.get();
+        let inner = s % way_size;
+        if !(offset..offset + colour_size).contains(&inner) {
             return None;
         }
-        Some(PseudoVirtualAddress(s / way * colour + inner - offset))
+        Some(PseudoVirtualAddress(s / way_size * colour_size + inner - offset))
     }
 }
 
-pub type Colour = Armed<ColourRegisters>;
+pub type Colour = ArmedRegisters<ColourRegisters>;

@@ -1,4 +1,6 @@
 // The page colour mapping.
 #![tactic(auto)]
 
-pub mod colour;
+mod colour;
+
+pub use colour::{Colour, ColourRegisters};

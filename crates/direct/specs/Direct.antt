@@ -2,10 +2,10 @@
 -- I is the image size; s is a window address.
 -- address s: the place of s
 -- extent I: the end of the last byte
--- held r: what the registers hold, by their numbers
 -- direct_rules: all of this as the rules of a mapping
+-- values r: what the registers hold, by their numbers
 use Rattle.std.specs.Prelude.{ℕ, true, List, [], ◌∷◌, Some}
-use Rattle.mapping.specs.Rules.{Rules, image}
+use Rattle.mapping.specs.Rules.{Rules, image_size}
 use Rattle.direct.specs.declared.direct.DirectRegisters.{DirectRegisters}
 
 abbrev pub address : ℕ → ℕ
@@ -14,15 +14,15 @@ address s = s
 abbrev pub extent : ℕ → ℕ
 extent I = I
 
-abbrev pub held : DirectRegisters → List ℕ
-held r = r.image.value ∷ r.table.value ∷ []
-
 abbrev pub direct_rules : Rules
 direct_rules = record {
-  kind = 1;
+  type_number = 1;
   widths = 32 ∷ 28 ∷ [];
   condition = λ rs. true;
   grain = λ rs. 128;
-  extent = λ rs. extent (image rs);
+  extent = λ rs. extent (image_size rs);
   address = λ rs s. Some (address s);
 }
+
+abbrev pub values : DirectRegisters → List ℕ
+values r = r.common.image_size.value ∷ r.common.table_page.value ∷ []

@@ -1,4 +1,6 @@
 // The direct mapping.
 #![tactic(auto)]
 
-pub mod direct;
+mod direct;
+
+pub use direct::{Direct, DirectRegisters};

@@ -1,35 +1,23 @@
--- Which sets arm, and what becomes of the registers. Assumes nothing.
--- arming rules rs: the refusal of the registers rs, if they do not arm
--- verdict rules rs: acceptance if they arm, or else that refusal
+-- Which registers arm. Assumes nothing.
+-- check_arming rules rs: acceptance of the registers rs, or the refusal
 -- arms rules rs: whether they arm
--- refusal r: the refusal in an answer
--- kept f g r: what an answer keeps, by f of what was armed, or by g of what was handed back
-use Rattle.std.specs.Prelude.{ℕ, ◌^◌, Bool, cond, not, ◌||◌, List, is_some, Some, None, Ok, Err, Option, Result, ◌==◌, nat_lt}
-use Rattle.mapping.specs.Rules.{Rules, image, divides}
+-- ArmedValues rules rs: they fit their widths and arm, as the values of every mapping do that arming made
+use Rattle.std.specs.Prelude.{◌≡◌, ℕ, ◌^◌, Bool, true, cond, not, ◌||◌, List, is_ok, Ok, Err, Result, ◌==◌, nat_lt}
+use Rattle.mapping.specs.Rules.{Rules, image_size, divides}
+use Rattle.mapping.specs.Registers.{Fits}
 use Rattle.mapping.specs.declared.refusal.ArmingRefusal.{ArmingRefusal}
 use Rattle.mapping.specs.declared.refusal.ArmingRefusal.TheVariants.{BadImage, BadCondition, TooFar}
 
--- first the image, then the mapping's condition, then the extent
-abbrev pub arming : Rules → List ℕ → Option ArmingRefusal
-arming rules rs =
-    cond (image rs == 0 || not (divides 128 (image rs))) (Some BadImage)
-    (cond (not (rules.condition rs)) (Some BadCondition)
-    (cond (nat_lt (2 ^ 34) (rules.extent rs)) (Some TooFar) None))
-
-abbrev pub refused_by : Option ArmingRefusal → Result (Unit {0}) ArmingRefusal
-refused_by None = Ok tt
-refused_by (Some refusal) = Err refusal
-
-abbrev pub verdict : Rules → List ℕ → Result (Unit {0}) ArmingRefusal
-verdict rules rs = refused_by (arming rules rs)
+-- first the image size, then the mapping's condition, then the extent
+abbrev pub check_arming : Rules → List ℕ → Result (Unit {0}) ArmingRefusal
+check_arming rules rs =
+    cond (image_size rs == 0 || not (divides 128 (image_size rs))) (Err BadImage)
+    (cond (not (rules.condition rs)) (Err BadCondition)
+    (cond (nat_lt (2 ^ 34) (rules.extent rs)) (Err TooFar) (Ok tt)))
 
 abbrev pub arms : Rules → List ℕ → Bool
-arms rules rs = not (is_some (arming rules rs))
+arms rules rs = is_ok (check_arming rules rs)
 
-abbrev pub refusal : {X Y : Type 0} → Result X (ArmingRefusal × Y) → Option ArmingRefusal
-refusal (Ok x) = None
-refusal (Err e) = Some e.0
-
-abbrev pub kept : {X Y Z : Type 0} → (X → Z) → (Y → Z) → Result X (ArmingRefusal × Y) → Z
-kept armed back (Ok x) = armed x
-kept armed back (Err e) = back e.1
+pub record ArmedValues (rules : Rules) (rs : List ℕ) : Type 0 where
+  pub passed : arms rules rs ≡ true
+  pub fit : Fits rules.widths rs

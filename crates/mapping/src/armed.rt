@@ -1,12 +1,12 @@
 // Armed registers are a mapping, whichever mapping's they are: what all mappings answer alike stands here once.
-ghost use Rattle.std.specs.Prelude.{◌≡◌, ℕ, true, refl};
+ghost use Rattle.std.specs.Prelude.{◌≡◌, ℕ, refl};
 ghost use Rattle.std.specs.Option.{option_map};
-ghost use Rattle.mapping.specs.Rules.{layout, placed, table};
-ghost use Rattle.mapping.specs.Arming.{arms};
+ghost use Rattle.mapping.specs.Rules.{layout_of, placed};
+ghost use Rattle.mapping.specs.Arming.{ArmedValues};
 ghost use Rattle.mapping.specs.Laws.{Lawful};
 
 use crate::address::{PseudoVirtualAddress, WindowAddress};
-use crate::arming::objection;
+use crate::arming::check_arming;
 use crate::contract::{Mapping, RegisterRecord};
 use crate::refusal::ArmingRefusal;
 
@@ -15,65 +15,63 @@ pub trait Addressing: RegisterRecord {
     // The type number.
     const TYPE: u8;
 
-    // The same for clauses, which cannot name the constant; the check proves the two equal.
+    // The same for clauses, as in `Mapping`.
     ghost TYPE: { ℕ };
 
-    // The page of the memory below where the page table starts: as the image size, a register that each record names.
-    fn table(&self) -> u64
-        ensures { result ≡ table (Self.held self.now) };
-
     fn grain(&self) -> u64
-        ensures { result ≡ Self.rules.grain (Self.held self.now) };
+        ensures { result ≡ Self.rules.grain (Self.values self.now) };
 
-    // Where a byte of the image stands in the data, or nothing. Only registers that arm are known to place it below 2^64. That the byte
-    // is inside the image each mapping tests itself: a call may ask that it is given what has armed, and nothing of an address.
+    // Where a byte of the image stands in the data, or nothing. Registers that have armed divide by no 0 and place it below 2^64. That
+    // the byte is inside the image each mapping tests itself: a call may ask that it is given what has armed, and nothing of an address.
     fn place(&self, s: WindowAddress) -> Option<PseudoVirtualAddress>
-        requires { arms Self.rules (Self.held self.now) ≡ true }
-        ensures { option_map (λ v. v.0) result ≡ placed Self.rules (Self.held self.now) s.0 };
+        requires { ArmedValues Self.rules (Self.values self.now) }
+        ensures { option_map (λ v. v.0) result ≡ placed Self.rules (Self.values self.now) s.0 };
 
-    ghost numbered: { TYPE ≡ Self.rules.kind };
+    ghost numbered: { TYPE ≡ Self.rules.type_number };
 
-    ghost laws: { (r : Self) → arms Self.rules (Self.held r) ≡ true → Lawful (layout Self.rules (Self.held r)) };
+    ghost laws: { (r : Self) → ArmedValues Self.rules (Self.values r) → Lawful (layout_of Self.rules (Self.values r)) };
 }
 
-// Registers that have armed.
+// Registers that have armed, as `armed` says of every one that arming made. Plain numbers: a stack of layers over lent bytes is not
+// covered by the check where one of them holds a ghost field.
 #[derive(Drop)]
-pub struct Armed<R: Addressing> {
+pub struct ArmedRegisters<R: Addressing> {
     registers: R,
-    ghost armed: { arms R.rules (R.held registers) ≡ true },
 }
 
-impl<R: Addressing> Mapping for Armed<R> {
+impl<R: Addressing> Mapping for ArmedRegisters<R> {
     type Registers = R;
 
     const TYPE: u8 = R::TYPE;
 
-    ghost source = { λ m. m.registers };
+    ghost TYPE = { R.TYPE };
 
-    ghost meaning = { λ m. layout R.rules (R.held m.registers) };
+    ghost values = { λ m. R.values m.registers };
 
-    ghost meant = { λ m. refl };
+    ghost armed = { λ m. ArmedValues R.rules (R.values m.registers) };
 
-    ghost lawful = { λ m. R.laws m.registers m.armed };
+    ghost meaning = { λ m. layout_of R.rules (R.values m.registers) };
 
-    fn type_number() -> u8 {
-        R::TYPE
-    }
+    ghost numbered = { R.numbered };
 
-    fn armed(registers: R) -> Result<Armed<R>, (ArmingRefusal, R)> {
+    ghost meant = { λ m _. refl };
+
+    ghost lawful = { λ m. R.laws m.registers };
+
+    fn arm(registers: R) -> Result<ArmedRegisters<R>, (ArmingRefusal, R)> {
         // The registers go into either answer, so a match and not two closures.
-        match objection(&registers) {
-            Ok(()) => Ok(Armed { registers }),
+        match check_arming(&registers) {
+            Ok(()) => Ok(ArmedRegisters { registers }),
             Err(refusal) => Err((refusal, registers)),
         }
     }
 
-    fn image(&self) -> u64 {
-        self.registers.image()
+    fn image_size(&self) -> u64 {
+        self.registers.common().image_size()
     }
 
-    fn table(&self) -> u64 {
-        self.registers.table()
+    fn table_page(&self) -> u64 {
+        self.registers.common().table_page()
     }
 
     fn grain(&self) -> u64 {
@@ -82,7 +80,7 @@ impl<R: Addressing> Mapping for Armed<R> {
 
     // The condition holds of registers that have armed, so there is an extent.
     fn extent(&self) -> u64 {
-        self.registers.extent().unwrap()
+        self.registers.checked_extent().unwrap()
     }
 
     fn place(&self, s: WindowAddress) -> Option<PseudoVirtualAddress> {

@@ -1,8 +1,9 @@
 // Register sets. A set being written takes registers and is used up by arming it; an armed set holds the mapping.
 ghost use Rattle.std.specs.Prelude.{◌≡◌, IfOk};
-ghost use Rattle.mapping.specs.Registers.{answered, written, cleared};
+ghost use Rattle.std.specs.Result.{result_map_both, MatchResult};
+ghost use Rattle.mapping.specs.Registers.{Fits, Fits_prop, cleared, register_answer, registers_after};
 ghost use Rattle.mapping.specs.Laws.{Lawful};
-ghost use Rattle.mapping.specs.Arming.{arming, refusal, kept};
+ghost use Rattle.mapping.specs.Arming.{check_arming};
 
 use crate::contract::{Mapping, RegisterRecord};
 use crate::refusal::{ArmingRefusal, RegisterRefusal};
@@ -11,6 +12,7 @@ use crate::refusal::{ArmingRefusal, RegisterRefusal};
 #[derive(Drop)]
 pub struct RegisterSet<M: Mapping> {
     registers: M::Registers,
+    ghost fit: { Fits M.Registers.rules.widths (M.Registers.values registers) } by { Fits_prop M.Registers.rules.widths (M.Registers.values registers) },
 }
 
 // An armed set: whoever opens a window takes it whole.
@@ -21,8 +23,9 @@ pub struct ArmedSet<M: Mapping> {
 
 impl<M: Mapping> RegisterSet<M> {
     // A set whose registers are all 0.
+    #[tactic(auto, using(crate::proofs::Widths::new_fits))]
     pub fn new() -> RegisterSet<M>
-        ensures { M.Registers.RegisterRecord.held result.registers ≡ cleared M.Registers.RegisterRecord.rules.widths }
+        ensures { M.Registers.values result.registers ≡ cleared M.Registers.rules.widths }
     {
         RegisterSet {
             registers: M::Registers::new(),
@@ -30,21 +33,22 @@ impl<M: Mapping> RegisterSet<M> {
     }
 
     // Replaces one register, or refuses and changes none.
+    #[tactic(auto, using(crate::proofs::Widths::write_fits))]
     pub fn write(&mut self, number: u64, value: u64) -> Result<(), RegisterRefusal>
-        ensures answer { result ≡ answered M.Registers.RegisterRecord.rules.widths number value }
-        ensures after { M.Registers.RegisterRecord.held self.new.registers ≡ written M.Registers.RegisterRecord.rules.widths (M.Registers.RegisterRecord.held self.old.registers) number value }
+        ensures answer { result ≡ register_answer M.Registers.rules.widths number value }
+        ensures after { M.Registers.values self.new.registers ≡ registers_after M.Registers.rules.widths (M.Registers.values self.old.registers) number value }
     {
         self.registers.write(number, value)
     }
 
     // Uses the set up, or refuses and hands it back as it was. What is armed keeps the laws of a mapping.
     pub fn arm(self) -> Result<ArmedSet<M>, (ArmingRefusal, RegisterSet<M>)>
-        ensures answer { refusal result ≡ arming M.Registers.RegisterRecord.rules (M.Registers.RegisterRecord.held self.registers) }
-        ensures kept { kept (λ a. M.source a.mapping) (λ s. s.registers) result ≡ self.registers }
+        ensures answer { result_map_both (λ _. tt) (λ e. e.0) result ≡ check_arming M.Registers.rules (M.Registers.values self.registers) }
+        ensures outcome { MatchResult result (λ a. M.armed a.mapping × (M.values a.mapping ≡ M.Registers.values self.registers)) (λ e. e.1.registers ≡ self.registers) }
         ensures lawful { IfOk result (λ a. Lawful (M.meaning a.mapping)) }
     {
         // Both answers are taken apart, so a match and not two closures.
-        match M::armed(self.registers) {
+        match M::arm(self.registers) {
             Ok(mapping) => Ok(ArmedSet { mapping }),
             Err((refusal, registers)) => Err((refusal, RegisterSet { registers })),
         }

@@ -1,13 +1,12 @@
 // Which values arm, and with which refusal the others do not.
 use crate::setup::{armed, set_of};
-use colour::colour::Colour;
-use direct::direct::Direct;
+use colour::Colour;
+use direct::Direct;
 use expect::same;
-use mapping::contract::Mapping;
-use mapping::refusal::ArmingRefusal;
+use mapping::{ArmingRefusal, Mapping};
 use std::test::Fail;
-use stride::stride::Stride;
-use transpose::transpose::Transpose;
+use stride::Stride;
+use transpose::Transpose;
 
 // The set arms.
 const ARMS: Result<(), ArmingRefusal> = Ok(());
@@ -133,8 +132,8 @@ fn mended() -> Result<(), Fail> {
         return Err(Fail::new("not armed"));
     };
     let mapping = armed.into_mapping();
-    same(mapping.image(), 128)?;
-    same(mapping.table(), 7)?;
+    same(mapping.image_size(), 128)?;
+    same(mapping.table_page(), 7)?;
     same(mapping.grain(), 4)?;
     same(mapping.extent(), 4096)
 }

@@ -1,12 +1,12 @@
 // Where the bytes of an image stand.
 use crate::setup::place;
-use colour::colour::Colour;
-use direct::direct::Direct;
+use colour::Colour;
+use direct::Direct;
 use expect::same;
-use mapping::contract::Mapping;
+use mapping::Mapping;
 use std::test::Fail;
-use stride::stride::Stride;
-use transpose::transpose::Transpose;
+use stride::Stride;
+use transpose::Transpose;
 
 fn check_places<M: Mapping>(values: &[u64], cases: &[(u64, Option<u64>)]) -> Result<(), Fail> {
     for (s, expected) in cases {

@@ -1,13 +1,14 @@
-// Which registers a mapping has, and how wide they are.
+// Which registers a mapping has, and how wide they are; its type number; the refusals' numbers.
+ghost use Rattle.std.specs.Prelude.{◌≡◌};
+
 use crate::setup::written;
-use colour::colour::Colour;
-use direct::direct::Direct;
+use colour::Colour;
+use direct::Direct;
 use expect::same;
-use mapping::contract::Mapping;
-use mapping::refusal::{ArmingRefusal, RegisterRefusal};
+use mapping::{ArmingRefusal, Mapping, RegisterRefusal};
 use std::test::Fail;
-use stride::stride::Stride;
-use transpose::transpose::Transpose;
+use stride::Stride;
+use transpose::Transpose;
 
 // Each register takes its largest value and refuses the next; there is no register after the last.
 fn check_widths<M: Mapping>(widths: &[u32]) -> Result<(), Fail> {
@@ -45,13 +46,19 @@ fn types() -> Result<(), Fail> {
     same(Transpose::TYPE, 4)
 }
 
-// The function says the same number as the constant.
+// What generic code reads of a mapping's type.
+fn type_number<M: Mapping>() -> u8
+    ensures { result ≡ M.Registers.rules.type_number }
+{
+    M::TYPE
+}
+
 #[test]
 fn type_numbers() -> Result<(), Fail> {
-    same(Direct::type_number(), 1)?;
-    same(Colour::type_number(), 2)?;
-    same(Stride::type_number(), 3)?;
-    same(Transpose::type_number(), 4)
+    same(type_number::<Direct>(), 1)?;
+    same(type_number::<Colour>(), 2)?;
+    same(type_number::<Stride>(), 3)?;
+    same(type_number::<Transpose>(), 4)
 }
 
 #[test]

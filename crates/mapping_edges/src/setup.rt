@@ -1,8 +1,5 @@
 // What the tests ask of a mapping, by the values of its registers.
-use mapping::address::WindowAddress;
-use mapping::contract::Mapping;
-use mapping::refusal::{ArmingRefusal, RegisterRefusal};
-use mapping::set::RegisterSet;
+use mapping::{ArmingRefusal, Mapping, RegisterRefusal, RegisterSet, WindowAddress};
 
 // What a new set answers to a value for one register.
 pub(crate) fn written<M: Mapping>(number: u64, value: u64) -> Result<(), RegisterRefusal> {

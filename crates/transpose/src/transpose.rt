@@ -1,100 +1,85 @@
 // Transpose: a matrix that lies row by row in the data, column by column in the image.
-ghost use Rattle.std.specs.Prelude.{◌≡◌, ◌^◌, ◌<◌, refl};
-ghost use Rattle.transpose.specs.Transpose.{transpose_rules, held, address};
-ghost use Rattle.mapping.proofs.Laws;
-ghost use Rattle.transpose.specs.Transpose as SpecsTranspose;
+ghost use Rattle.std.specs.Prelude.{◌≡◌, ◌<◌, refl};
+ghost use Rattle.mapping.specs.Registers.{Fits};
+ghost use Rattle.mapping.proofs.Laws.{lawful};
+ghost use Rattle.transpose.specs.Transpose.{transpose_rules, values};
 ghost use Rattle.transpose.specs.Laws.{addressed};
 
-use mapping::address::{PseudoVirtualAddress, WindowAddress};
-use mapping::armed::{Addressing, Armed};
-use mapping::contract::RegisterRecord;
-use mapping::element::is_element;
-use mapping::refusal::RegisterRefusal;
-use mapping::register::Register;
+use mapping::{
+    Addressing, ArmedRegisters, CommonRegisters, PseudoVirtualAddress, Register, RegisterRecord,
+    RegisterRefusal, WindowAddress, is_element_size,
+};
+use units::is_power_of_two;
 
 // Registers by name, each of its width. A list of numbers would be shorter to write by number, and lose both.
 #[derive(Drop)]
 pub struct TransposeRegisters {
-    image: Register<32>,
-    table: Register<28>,
-    element: Register<12>,
-    row: Register<32>,
-    rows: Register<32>,
+    common: CommonRegisters,
+    element_size: Register<12>,
+    row_size: Register<32>,
+    row_count: Register<32>,
 }
 
 impl TransposeRegisters {
-    // The mapping's own condition: whole elements fill the rows, and the columns that are shown fill the image.
-    fn met(&self) -> bool
-        ensures { result ≡ transpose_rules.condition (held self.now) }
+    // Whole elements fill the rows, and the columns that are shown fill the image.
+    fn condition(&self) -> bool
+        requires { Fits transpose_rules.widths (values self.now) }
+        ensures { result ≡ transpose_rules.condition (values self.now) }
     {
-        let image = self.image.get();
-        let element = self.element.get();
-        let row = self.row.get();
-        let rows = self.rows.get();
-        is_element(element)
-            && rows.is_power_of_two()
-            && row % element == 0
-            && image % (element * rows) == 0
-            && image / rows <= row
+        let image_size = self.common.image_size();
+        let element_size = self.element_size.get();
+        let row_size = self.row_size.get();
+        let row_count = self.row_count.get();
+        is_element_size(element_size)
+            && is_power_of_two(row_count)
+            && row_size % element_size == 0
+            && image_size % (element_size * row_count) == 0
+            && image_size / row_count <= row_size
     }
 
     // The end of what is shown of the last row.
-    fn end(&self) -> u64
-        requires { 0 < self.now.rows.value }
-        ensures { result ≡ transpose_rules.extent (held self.now) }
+    fn extent(&self) -> u64
+        requires fit { Fits transpose_rules.widths (values self.now) }
+        requires divisor { 0 < self.now.row_count.value }
+        ensures { result ≡ transpose_rules.extent (values self.now) }
     {
-        let rows = self.rows.get();
-        (rows - 1) * self.row.get() + self.image.get() / rows
-    }
-
-    // The place of a byte. Only registers that arm are known to keep it below 2^64.
-    fn address(&self, s: u64) -> u64
-        requires size { 0 < self.now.element.value }
-        requires rows { 0 < self.now.rows.value }
-        requires low { address self.now.element.value self.now.row.value self.now.rows.value s < 2 ^ 64 }
-        ensures { result ≡ address self.now.element.value self.now.row.value self.now.rows.value s }
-    {
-        let size = self.element.get();
-        let rows = self.rows.get();
-        let element = s / size;
-        let start = element % rows * self.row.get() + element / rows * size;
-        start + s % size
+        let row_count = self.row_count.get();
+        (row_count - 1) * self.row_size.get() + self.common.image_size() / row_count
     }
 }
 
 impl RegisterRecord for TransposeRegisters {
     ghost rules = { transpose_rules };
 
-    ghost held = { held };
+    ghost values = { values };
+
+    ghost shared = { refl };
 
     fn new() -> TransposeRegisters {
         TransposeRegisters {
-            image: Register::new(),
-            table: Register::new(),
-            element: Register::new(),
-            row: Register::new(),
-            rows: Register::new(),
+            common: CommonRegisters::new(),
+            element_size: Register::new(),
+            row_size: Register::new(),
+            row_count: Register::new(),
         }
     }
 
     fn write(&mut self, number: u64, value: u64) -> Result<(), RegisterRefusal> {
         match number {
-            0 => self.image.write(value),
-            1 => self.table.write(value),
-            2 => self.element.write(value),
-            3 => self.row.write(value),
-            4 => self.rows.write(value),
-            _ => Err(RegisterRefusal::NoRegister),
+            2 => self.element_size.write(value),
+            3 => self.row_size.write(value),
+            4 => self.row_count.write(value),
+            _ => self.common.write(number, value),
         }
     }
 
-    fn image(&self) -> u64 {
-        self.image.get()
+    fn common(&self) -> &CommonRegisters {
+        &self.common
     }
 
-    // As in each mapping with a condition: `end` asks what `met` found, so both are the record's own.
-    fn extent(&self) -> Option<u64> {
-        self.met().then(|| self.end())
+    // As in each mapping with a condition: `extent` asks what `condition` found, so both are the record's own.
+    fn checked_extent(&self) -> Option<u64> {
+        self.condition().then(|| self.extent())
     }
 }
 
@@ -105,26 +90,24 @@ impl Addressing for TransposeRegisters {
 
     ghost numbered = { refl };
 
-    // One form in each mapping, by the laws of its own rules; `Laws.lawful` has what all share.
-    ghost laws = { λ r passed.
-        let rs = SpecsTranspose.held r in
-        Laws.lawful transpose_rules rs passed r.image.fits r.table.fits (addressed rs (Laws.armed transpose_rules rs passed)) };
-
-    fn table(&self) -> u64 {
-        self.table.get()
-    }
+    // One form in each mapping, by the laws of its own rules; `lawful` has what all share.
+    ghost laws = { λ r armed. lawful transpose_rules (values r) refl armed (addressed (values r)) };
 
     fn grain(&self) -> u64 {
-        self.element.get()
+        self.element_size.get()
     }
 
     fn place(&self, s: WindowAddress) -> Option<PseudoVirtualAddress> {
         let WindowAddress(s) = s;
-        if s >= self.image.get() {
+        if s >= self.common.image_size() {
             return None;
         }
-        Some(PseudoVirtualAddress(self.address(s)))
+        let element_size = self.element_size.get();
+        let row_count = self.row_count.get();
+        let element = s / element_size;
+        let start = element % row_count * self.row_size.get() + element / row_count * element_size;
+        Some(PseudoVirtualAddress(start + s % element_size))
     }
 }
 
-pub type Transpose = Armed<TransposeRegisters>;
+pub type Transpose = ArmedRegisters<TransposeRegisters>;
