@@ -5,13 +5,14 @@ use Rattle.std.specs.Result as results
 use Rattle.std.proofs.lemmas.List.{length-append, get_or_append_left, get_or-append_right}
 use Rattle.std.proofs.lemmas.Bool.{cases_lt}
 use Rattle.memory.specs.declared.fault.Fault.{Fault}
-use Rattle.memory.specs.Fault.{raised}
+use Rattle.memory.specs.Fault.{passed_up}
 use Rattle.memory.specs.Meaning.{Meaning, byte}
-use Rattle.memory.specs.Calls.{answer, bytes}
-use Rattle.memory.proofs.Calls.{length_bytes, get_or_bytes, plain_byte}
+use Rattle.memory.specs.Calls.{read_answer, bytes}
+use Rattle.memory.proofs.Calls.{length_bytes, get_or_bytes, cell_answer_byte}
 use Rattle.memory.proofs.Writes.{accepted_each}
-use Rattle.mapping.specs.Rules.{Layout, power}
+use Rattle.mapping.specs.Rules.{Layout}
 use Rattle.mapping.specs.Laws.{Lawful}
+use Rattle.units.specs.Power.{is_power_of_two}
 use Rattle.units.proofs.Powers.{power_divides, power_pow}
 use Rattle.mapping.proofs.Multiples.{times_multiple, skip_multiple, multiple_room}
 use Rattle.dense.specs.Dense.{fetched_at, piece, before, pieces, gathered, Dense}
@@ -23,7 +24,7 @@ moved (Some w) o i v e = let same : w + o ≡ v = cc in ap Some (omega arith)
 -- the four bytes of a piece lie in one grain, so they follow one another
 module _ (l : Layout) (laws : Lawful l) where
   grain_fours : l.grain % 4 ≡ 0
-  grain_fours = power_divides 4 l.grain (power_pow 2) (subst (λ n. power n ≡ true) (sym laws.grain.1) (power_pow laws.grain.0)) laws.least
+  grain_fours = power_divides 4 l.grain (power_pow 2) (subst (λ n. is_power_of_two n ≡ true) (sym laws.grain_power.1) (power_pow laws.grain_power.0)) laws.grain_least
 
   pub place_follows : (k i v : ℕ) → i < 4 → l.place (k * 4) ≡ Some v → l.place (k * 4 + i) ≡ Some (v + i)
   place_follows k i v low e =
@@ -31,7 +32,7 @@ module _ (l : Layout) (laws : Lawful l) where
       let q : ℕ = k * 4 / g in
       let o : ℕ = k * 4 % g in
       let split : q * g + o ≡ k * 4 = div-add-mod' (k * 4) g in
-      let inside : o < g = mod-lt (k * 4) (omega (arith, laws.least)) in
+      let inside : o < g = mod-lt (k * 4) (omega (arith, laws.grain_least)) in
       let fours : o % 4 ≡ 0 = sym (skip_multiple (q * g) o 4 (times_multiple q g 4 grain_fours)) ∙ ap (λ n. n % 4) split ∙ omega arith in
       let room : o + 4 ≤ g = multiple_room o g 4 fours grain_fours inside in
       let first : options.option_map (λ w. w + o) (l.place (q * g)) ≡ Some v =
@@ -39,14 +40,14 @@ module _ (l : Layout) (laws : Lawful l) where
       let at : k * 4 + i ≡ q * g + (o + i) = omega arith in
       ap l.place at ∙ laws.grained.follows q (o + i) (omega arith) ∙ moved (l.place (q * g)) o i v first
 
-read_ok : (m : Meaning) (v : ℕ) (p : List ℕ) (r : Result (Unit {0}) Fault) → results.result_map_both (λ _. bytes m.cell v 4) raised r ≡ Ok p → (r ≡ Ok tt) × (p ≡ bytes m.cell v 4)
+read_ok : (m : Meaning) (v : ℕ) (p : List ℕ) (r : Result (Unit {0}) Fault) → results.result_map_both (λ _. bytes m.cell v 4) passed_up r ≡ Ok p → (r ≡ Ok tt) × (p ≡ bytes m.cell v 4)
 read_ok m v p (Ok u) e = (refl, cc)
 read_ok m v p (Err f) e = absurd cc
 
 -- an accepted piece, taken apart
-fetched_ok : (m : Meaning) (s : ℕ) (at : Option ℕ) (p : List ℕ) → fetched_at m s at ≡ Ok p → (v : ℕ) × (at ≡ Some v) × (answer m v 4 ≡ Ok tt) × (p ≡ bytes m.cell v 4)
+fetched_ok : (m : Meaning) (s : ℕ) (at : Option ℕ) (p : List ℕ) → fetched_at m s at ≡ Ok p → (v : ℕ) × (at ≡ Some v) × (read_answer m v 4 ≡ Ok tt) × (p ≡ bytes m.cell v 4)
 fetched_ok m s None p e = absurd cc
-fetched_ok m s (Some v) p e = let r = read_ok m v p (answer m v 4) e in (v, refl, r.0, r.1)
+fetched_ok m s (Some v) p e = let r = read_ok m v p (read_answer m v 4) e in (v, refl, r.0, r.1)
 
 pub length_piece : (l : Layout) (m : Meaning) (s : ℕ) (p : List ℕ) → piece l m s ≡ Ok p → length p ≡ 4
 length_piece l m s p e = let f = fetched_ok m s (l.place s) p e in ap length f.3 ∙ length_bytes m.cell f.0 4
@@ -69,7 +70,7 @@ module _ (l : Layout) (laws : Lawful l) (m : Meaning) where
             let here : p ≡ bytes m.cell f.0 4 = f.3 in (
               f.0 + i,
               place_follows l laws k i f.0 low f.1,
-              plain_byte (m.cell (f.0 + i)) (accepted_each m f.0 4 f.2 (f.0 + i) (omega arith, omega arith))
+              cell_answer_byte (m.cell (f.0 + i)) (accepted_each m f.0 4 f.2 (f.0 + i) (omega arith, omega arith))
                   ∙ ap byte (sym (ap (λ xs. get_or xs i 0) here ∙ get_or_bytes m.cell f.0 4 i low)),
             ),
       )

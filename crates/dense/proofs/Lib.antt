@@ -1,3 +1,2 @@
-pub mod Gathers
 pub mod Grains
-pub mod Words
+pub mod Gathers

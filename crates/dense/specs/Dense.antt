@@ -1,27 +1,22 @@
 -- A dense line, gathered by a mapping from the data in a memory. Assumes nothing.
 -- piece l m s: the four bytes from the window address s on, by the layout l, from the memory m
 -- gathered l m: the 32 pieces of the image's first line, one after the other, or the first refusal
--- word line k: the number that the four bytes at place k of the line say, most significant first
--- price_at line k: the price at place k of a line of 32
--- total_of line n: the total of the line's first n prices
 -- Dense l m line: each byte of the line is the byte of the cell where the layout places it
 use Rattle.std.specs.Prelude.{◌≡◌, ℕ, zero, suc, ◌+◌, ◌*◌, ◌<◌, cond, List, [], ◌++◌, length, sum_by, Some, None, Ok, Err, Option, Result, nat_lt, slice_index}
-use Rattle.std.specs.List.{range_with_len}
 use Rattle.std.specs.Result.{result_map_both}
 use Rattle.memory.specs.declared.fault.Cause.TheVariants.{Blank}
 use Rattle.memory.specs.declared.fault.Fault.{Fault}
-use Rattle.memory.specs.Fault.{refusal, raised}
-use Rattle.units.specs.Word.{word_at}
+use Rattle.memory.specs.Fault.{here, passed_up}
 use Rattle.memory.specs.Meaning.{Meaning, byte}
-use Rattle.memory.specs.Calls.{answer, bytes}
+use Rattle.memory.specs.Calls.{read_answer, bytes}
 use Rattle.mapping.specs.Rules.{Layout}
 
 -- four bytes at an address of the data
 abbrev pub fetched : Meaning → ℕ → Result (List ℕ) Fault
-fetched m v = result_map_both (λ _. bytes m.cell v 4) raised (answer m v 4)
+fetched m v = result_map_both (λ _. bytes m.cell v 4) passed_up (read_answer m v 4)
 
 abbrev pub fetched_at : Meaning → ℕ → Option ℕ → Result (List ℕ) Fault
-fetched_at m s None = Err (refusal Blank s)
+fetched_at m s None = Err (here Blank s)
 fetched_at m s (Some v) = fetched m v
 
 abbrev pub piece : Layout → Meaning → ℕ → Result (List ℕ) Fault
@@ -44,12 +39,3 @@ gathered l m = pieces l m 0 32
 pub record Dense (l : Layout) (m : Meaning) (line : List ℕ) : Type 0 where
   pub long : length line ≡ 128
   pub bytes : (i : ℕ) → i < 128 → (v : ℕ) × (l.place i ≡ Some v) × (m.cell v ≡ byte (slice_index line i))
-
-abbrev pub word : List ℕ → ℕ → ℕ
-word line k = word_at line (k * 4)
-
-abbrev pub price_at : List ℕ → ℕ → Option ℕ
-price_at line k = cond (nat_lt k 32) (Some (word line k)) None
-
-unfoldable pub total_of : List ℕ → ℕ → ℕ
-total_of line n = sum_by (word line) (range_with_len 0 n)

@@ -5,8 +5,7 @@ ghost use Rattle.std.specs.Prelude.{◌≡◌};
 ghost use Rattle.samples.specs.Mappings.{MappingExamples};
 ghost use Rattle.samples.specs.Runs.{run_answers, RunExamples};
 
-use memory::fault::Fault;
-use memory::run::check_run;
+use memory::{Fault, check_run};
 
 // What the test of a run answers, in a memory of 1,024 cells.
 #[derive(Clone, Copy)]
