@@ -1,5 +1,5 @@
 // Which values arm, and with which refusal the others do not.
-use crate::setup::{armed, set_of};
+use crate::setup::{arm, set_of};
 use colour::Colour;
 use direct::Direct;
 use expect::same;
@@ -22,18 +22,18 @@ const TOO_FAR: Result<(), ArmingRefusal> = Err(ArmingRefusal::TooFar);
 fn check_cases<M: Mapping>(cases: &[([u64; 4], Result<(), ArmingRefusal>)]) -> Result<(), Fail> {
     for (values, expected) in cases {
         let [image, second, third, fourth] = *values;
-        same(armed::<M>(&[image, 0, second, third, fourth]), *expected)?;
+        same(arm::<M>(&[image, 0, second, third, fourth]), *expected)?;
     }
     Ok(())
 }
 
 #[test]
 fn images() -> Result<(), Fail> {
-    same(armed::<Direct>(&[0]), BAD_IMAGE)?;
-    same(armed::<Direct>(&[127]), BAD_IMAGE)?;
-    same(armed::<Direct>(&[128]), ARMS)?;
-    same(armed::<Direct>(&[129]), BAD_IMAGE)?;
-    same(armed::<Direct>(&[4294967168, 268435455]), ARMS)
+    same(arm::<Direct>(&[0]), BAD_IMAGE)?;
+    same(arm::<Direct>(&[127]), BAD_IMAGE)?;
+    same(arm::<Direct>(&[128]), ARMS)?;
+    same(arm::<Direct>(&[129]), BAD_IMAGE)?;
+    same(arm::<Direct>(&[4294967168, 268435455]), ARMS)
 }
 
 #[test]

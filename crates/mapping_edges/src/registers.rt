@@ -1,7 +1,7 @@
 // Which registers a mapping has, and how wide they are; its type number; the refusals' numbers.
 ghost use Rattle.std.specs.Prelude.{◌≡◌};
 
-use crate::setup::written;
+use crate::setup::offer;
 use colour::Colour;
 use direct::Direct;
 use expect::same;
@@ -22,12 +22,12 @@ fn check_widths<M: Mapping>(widths: &[u32]) -> Result<(), Fail> {
         if limit == 0 {
             return Err(Fail::new("a power of two is not 0"));
         }
-        same(written::<M>(number, limit - 1), Ok(()))?;
-        same(written::<M>(number, limit), too_wide)?;
-        same(written::<M>(number, u64::MAX), too_wide)?;
+        same(offer::<M>(number, limit - 1), Ok(()))?;
+        same(offer::<M>(number, limit), too_wide)?;
+        same(offer::<M>(number, u64::MAX), too_wide)?;
     }
-    same(written::<M>(widths.len() as u64, 0), no_register)?;
-    same(written::<M>(u64::MAX, u64::MAX), no_register)
+    same(offer::<M>(widths.len() as u64, 0), no_register)?;
+    same(offer::<M>(u64::MAX, u64::MAX), no_register)
 }
 
 #[test]

@@ -2,7 +2,7 @@
 use mapping::{ArmingRefusal, Mapping, RegisterRefusal, RegisterSet, WindowAddress};
 
 // What a new set answers to a value for one register.
-pub(crate) fn written<M: Mapping>(number: u64, value: u64) -> Result<(), RegisterRefusal> {
+pub(crate) fn offer<M: Mapping>(number: u64, value: u64) -> Result<(), RegisterRefusal> {
     RegisterSet::<M>::new().write(number, value)
 }
 
@@ -16,7 +16,7 @@ pub(crate) fn set_of<M: Mapping>(values: &[u64]) -> RegisterSet<M> {
 }
 
 // What arming a set with these values answers.
-pub(crate) fn armed<M: Mapping>(values: &[u64]) -> Result<(), ArmingRefusal> {
+pub(crate) fn arm<M: Mapping>(values: &[u64]) -> Result<(), ArmingRefusal> {
     set_of::<M>(values)
         .arm()
         .map(|_| ())
