@@ -10,7 +10,6 @@ ghost use Rattle.checked.specs.Line.{exclusive_or, sealed, line_start, line_answ
 ghost use Rattle.checked.specs.Checked.{guarding, updated, well_formed};
 
 pub use chip::flip;
-
 use memory::{ByteMemory, Cause, Fault, LineFormat, capacity, check_run};
 use units::{CHECKED_LINE, LINE};
 

@@ -23,7 +23,11 @@ fn bad_lists(rt: HostRuntime) -> Result<(), Fail> {
         b"99999999999999999999999999999999\n",
         InputError::TooLarge(1),
     )?;
-    refused(heap, b"9999999999999999999x\n", InputError::NotADigit(1, b'x'))
+    refused(
+        heap,
+        b"9999999999999999999x\n",
+        InputError::NotADigit(1, b'x'),
+    )
 }
 
 #[test]
