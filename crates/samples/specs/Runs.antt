@@ -2,7 +2,7 @@
 -- run_answers: what the test of a run answers at the end of a line, and at the size, of 1,024 cells
 -- RunExamples: at the end of a line, and at the size, of every well-formed memory
 use Rattle.std.specs.Prelude.{◌≡◌, ℕ, ◌<◌, ◌≤◌, Ok, Err}
-use Rattle.samples.specs.declared.RunAnswers.{RunAnswers}
+use Rattle.samples.specs.declared.examples.RunAnswers.{RunAnswers}
 use Rattle.memory.specs.declared.fault.Cause.TheVariants.{BadRun, PastEnd}
 use Rattle.memory.specs.Fault.{cause_number, here}
 use Rattle.memory.specs.Meaning.{Meaning, WellFormed}

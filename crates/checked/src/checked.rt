@@ -1,0 +1,96 @@
+// Checked memory: it borrows 129 bytes for each line, 128 cells and then their exclusive or, the check byte.
+ghost use Rattle.std.specs.Prelude.{◌≡◌, ◌+◌, ◌^◌, ◌<◌, ◌≤◌, length, take, Ok};
+ghost use Rattle.memory.specs.Bytes.{AllBytes, overlaid};
+ghost use Rattle.memory.specs.Calls.{read_answer, write_answer, written};
+ghost use Rattle.checked.specs.Line.{exclusive_or, sealed, line_start, line_answer};
+ghost use Rattle.checked.specs.Checked.{guarding, updated, well_formed};
+
+use memory::{ByteMemory, Cause, Fault, LineFormat, capacity, check_run};
+use units::{CHECKED_LINE, LINE};
+
+// A line is borrowed as its 128 cells and a check byte. Bytes after the last whole line, or past 2^40 cells, are no cells.
+pub struct CheckByte;
+
+pub type Checked<'a> = ByteMemory<'a, CheckByte>;
+
+impl LineFormat for CheckByte {
+    ghost meaning = { guarding };
+
+    ghost updated = { updated };
+
+    ghost formed = { well_formed };
+
+    fn size(lent: &[u8]) -> u64 {
+        capacity((lent.len() / CHECKED_LINE) as u64)
+    }
+
+    fn find(lent: &[u8], a: u64, n: usize) -> Result<usize, Fault> {
+        answer(lent, a, n)?;
+        Ok(line_start(a) + (a % LINE) as usize)
+    }
+
+    // As in every format, and no more than the order of its own two calls.
+    fn write(lent: &mut [u8], a: u64, bytes: &[u8]) -> Result<(), Fault> {
+        answer(lent, a, bytes.len())?;
+        copy_in(lent, a, bytes);
+        Ok(())
+    }
+}
+
+// The answer to a run: its cells are bytes if its line passes the check.
+fn answer(lent: &[u8], a: u64, n: usize) -> Result<(), Fault>
+    ensures read { result ≡ read_answer (guarding lent.now) a n }
+    ensures write { result ≡ write_answer (guarding lent.now) a n }
+{
+    check_run(CheckByte::size(lent), a, n)?;
+    line_answer(lent, a)
+}
+
+// The line of this address passes its check, or the fault of the cell there.
+fn line_answer(lent: &[u8], a: u64) -> Result<(), Fault>
+    requires { line_start a + 129 ≤ length lent.now }
+    ensures { result ≡ line_answer lent.now a }
+{
+    let from = line_start(a);
+    if exclusive_or(&lent[from..from + CHECKED_LINE]) != 0 {
+        return Err(Fault::here(Cause::FailedCheck, a));
+    }
+    Ok(())
+}
+
+// Puts the bytes into a run that is accepted.
+fn copy_in(lent: &mut [u8], a: u64, bytes: &[u8])
+    requires { write_answer (guarding lent.old) a (length bytes.now) ≡ Ok tt }
+    ensures lent { lent.new ≡ updated lent.old a bytes.now }
+    ensures meaning { guarding lent.new ≡ written (guarding lent.old) a bytes.now }
+    ensures bytes { AllBytes lent.new }
+{
+    let from = line_start(a);
+    let offset = (a % LINE) as usize;
+    store(&mut lent[from..from + CHECKED_LINE], offset, bytes);
+}
+
+// Where the line of this address begins in the borrowed bytes.
+fn line_start(a: u64) -> usize
+    requires { line_start a < 2 ^ 64 }
+    ensures { result ≡ line_start a }
+{
+    (a / LINE) as usize * CHECKED_LINE
+}
+
+fn exclusive_or(bytes: &[u8]) -> u8
+    ensures { result ≡ exclusive_or bytes.now }
+{
+    bytes.iter().fold(0, |all, byte| all ^ byte)
+}
+
+// Puts the bytes into the line at the offset, and brings the check byte up to date. The line comes whole, since its check byte is of all
+// its cells.
+fn store(line: &mut [u8], offset: usize, bytes: &[u8])
+    requires { (length line.old ≡ 129) × (offset + length bytes.now ≤ 128) }
+    ensures { line.new ≡ sealed (overlaid (take 128 line.old) offset bytes.now) }
+{
+    let end = offset + bytes.len();
+    line[offset..end].copy_from_slice(bytes);
+    line[128] = exclusive_or(&line[0..128]);
+}

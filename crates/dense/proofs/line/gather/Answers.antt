@@ -1,0 +1,35 @@
+-- Assumes nothing.
+use Rattle.std.proofs.Common.{◌≡◌, Ok, refl, sym, ap, ◌∙◌, arith}
+use Rattle.memory.proofs.Reaches.{reached_none, reached_more}
+use Rattle.dense.specs.Dense.{piece}
+use Rattle.dense.proofs.Gathers.{gathering_none, gathering_more, gathering_all}
+use Rattle.dense.proofs.Grains.{dense}
+use Rattle.dense.proofs.line.gather.Goals as goal
+
+pub loop-at-init : goal.loop-at-init
+loop-at-init g c = (gathering_none _ _ _ refl, refl, c.requires.coherent, reached_none g.M.Memory.step _)
+
+pub loop-at-preserved : goal.loop-at-preserved
+loop-at-preserved g c =
+    let l = g.P.Mapping.meaning c.args.mapping.now in
+    let at = c.loop-at.at in
+    let same = c.loop-at.invariant.1 in
+    let read : piece l (g.M.Memory.meaning c.args.memory.now) at ≡ Ok c.in_ok-piece.piece =
+    ap (λ n. piece l n at) (sym same) ∙ sym c.gather_price.ensures.value ∙ c.in_ok-piece.was in (
+      gathering_more c.loop-at.invariant.0 c.loop-at-test.true _ _ _ read c.copy_from_slice.ensures.after (omega arith),
+      c.gather_price.ensures.meaning ∙ same,
+      c.gather_price.ensures.coherent,
+      reached_more g.M.Memory.step c.loop-at.invariant.3 c.gather_price.ensures.reached,
+    )
+
+pub returns : goal.returns
+returns g c =
+    let l = g.P.Mapping.meaning c.args.mapping.now in
+    let whole = gathering_all c.loop-at.invariant.0 c.loop-at-test.false in
+    record {
+      value = sym whole;
+      dense = dense l (g.met.P.Mapping.lawful c.args.mapping.now c.requires.armed) (g.M.Memory.meaning c.args.memory.now) c.loop-at.line whole;
+      meaning = c.loop-at.invariant.1;
+      coherent = c.loop-at.invariant.2;
+      reached = c.loop-at.invariant.3;
+    }

@@ -1,0 +1,56 @@
+// Plain memory: it borrows bytes, and they are its cells.
+ghost use Rattle.std.specs.Prelude.{◌≡◌, length, Ok};
+ghost use Rattle.memory.specs.Bytes.{AllBytes};
+ghost use Rattle.memory.specs.Calls.{read_answer, write_answer, written};
+ghost use Rattle.plain.specs.Plain.{holding, updated, well_formed};
+
+use memory::{ByteMemory, Fault, LineFormat, capacity, check_run};
+use units::LINE;
+
+// A line is borrowed as its 128 cells. Bytes after the last whole line, or past 2^40, are no cells.
+pub struct CellsAlone;
+
+pub type Plain<'a> = ByteMemory<'a, CellsAlone>;
+
+impl LineFormat for CellsAlone {
+    ghost meaning = { holding };
+
+    ghost updated = { updated };
+
+    ghost formed = { well_formed };
+
+    fn size(lent: &[u8]) -> u64 {
+        capacity(lent.len() as u64 / LINE)
+    }
+
+    fn find(lent: &[u8], a: u64, n: usize) -> Result<usize, Fault> {
+        answer(lent, a, n)?;
+        Ok(a as usize)
+    }
+
+    // As in every format, and no more than the order of its own two calls.
+    fn write(lent: &mut [u8], a: u64, bytes: &[u8]) -> Result<(), Fault> {
+        answer(lent, a, bytes.len())?;
+        copy_in(lent, a, bytes);
+        Ok(())
+    }
+}
+
+// The answer to a run. No cell of a plain memory is a fault, so the test of the run is all of it.
+fn answer(lent: &[u8], a: u64, n: usize) -> Result<(), Fault>
+    ensures read { result ≡ read_answer (holding lent.now) a n }
+    ensures write { result ≡ write_answer (holding lent.now) a n }
+{
+    check_run(CellsAlone::size(lent), a, n)
+}
+
+// Puts the bytes into a run that is accepted.
+fn copy_in(lent: &mut [u8], a: u64, bytes: &[u8])
+    requires { write_answer (holding lent.old) a (length bytes.now) ≡ Ok tt }
+    ensures lent { lent.new ≡ updated lent.old a bytes.now }
+    ensures meaning { holding lent.new ≡ written (holding lent.old) a bytes.now }
+    ensures bytes { AllBytes lent.new }
+{
+    let at = a as usize;
+    lent[at..at + bytes.len()].copy_from_slice(bytes);
+}

@@ -1,0 +1,33 @@
+// The worked examples of docs/: computed by the library, and proved from its definitions.
+ghost use Rattle.std.specs.Prelude.{◌≡◌};
+ghost use Rattle.samples.specs.Mappings.{MappingExamples};
+ghost use Rattle.samples.specs.Runs.{run_answers, RunExamples};
+
+use memory::{Fault, check_run};
+
+// What the test of a run answers, in a memory of 1,024 cells.
+#[derive(Clone, Copy)]
+pub struct RunAnswers {
+    // 8 bytes at 120
+    pub eight: Result<(), Fault>,
+    // 9 bytes at 120
+    pub nine: Result<(), Fault>,
+    // no byte at the size
+    pub none: Result<(), Fault>,
+    // one byte at the size
+    pub one: Result<(), Fault>,
+}
+
+// The worked examples of runs, computed; that they hold of every memory; and the worked examples of mappings.
+pub fn worked_examples() -> RunAnswers
+    ensures computed { result ≡ run_answers }
+    ensures runs { RunExamples }
+    ensures mappings { MappingExamples }
+{
+    RunAnswers {
+        eight: check_run(1024, 120, 8),
+        nine: check_run(1024, 120, 9),
+        none: check_run(1024, 1024, 0),
+        one: check_run(1024, 1024, 1),
+    }
+}
