@@ -57,7 +57,7 @@ before_ok (Ok p) (Ok q) line e = (p, q, refl, refl, cc)
 before_ok (Ok p) (Err f) line e = absurd cc
 before_ok (Err f) s line e = absurd cc
 
--- n pieces from k on: how long they are, and what stands at each place
+-- n pieces from k on: how long they are, and what stands at each index
 abbrev Stands : Layout → Meaning → ℕ → List ℕ → ℕ → Type 0
 Stands l m s line i = (v : ℕ) × (l.place (s + i) ≡ Some v) × (m.cell v ≡ byte (get_or line i 0))
 

@@ -19,7 +19,7 @@ pub fn gather<M: Memory, P: Mapping>(memory: &mut M, mapping: &P) -> Result<[u8;
     ensures reached { Reached M.Memory.step memory.old memory.new }
 {
     let mut line = [0; 128];
-    // By places: tried with `chunks_exact_mut`, and no proof knows what its writes leave in the line. A word is the least grain of a
+    // By indices: tried with `chunks_exact_mut`, and no proof knows what its writes leave in the line. A word is the least grain of a
     // mapping, so no price leaves its grain.
     for at in (0..line.len()).step_by(WORD) {
         let piece = gather_price(memory, mapping, WindowAddress(at as u64))?;
