@@ -1,6 +1,6 @@
 #!/bin/sh
 # Shows that a build refuses programs that misuse register sets and addresses, and mappings of others that break a rule which all
-# mappings keep; and that it accepts a program and a mapping of the same shape.
+# mappings keep; and that it accepts a program and a mapping of the same shape, and the example of README.md.
 # They are put together in a temporary folder, beside a copy of the libraries that they use, and checked there.
 set -u
 cd "$(dirname "$0")/.." || exit 2
@@ -9,19 +9,30 @@ trap 'rm -rf "$work"' EXIT
 failed=0
 
 mkdir "$work/crates"
-cp -R crates/units crates/mapping crates/stride "$work/crates/"
+for crate in units memory plain records mapping stride dense; do
+    cp -R crates/$crate "$work/crates/"
+done
 cat >"$work/crates.txt" <<'LIST'
 units:
+memory: units
+plain: units memory
+records: units memory
 mapping: units
 stride: units mapping
+dense: units memory mapping
 LIST
 
-# program NAME MIDDLE: a crate that writes a set and arms it, with MIDDLE between arming and reading a place
-program() {
+# crate NAME USES: a crate of no source yet, which uses these
+crate() {
     mkdir -p "$work/crates/$1/src" "$work/crates/$1/specs" "$work/crates/$1/proofs"
     : >"$work/crates/$1/specs/Lib.antt"
     : >"$work/crates/$1/proofs/Lib.antt"
-    echo "$1: mapping stride" >>"$work/crates.txt"
+    echo "$1: $2" >>"$work/crates.txt"
+}
+
+# program NAME MIDDLE: a crate that writes a set and arms it, with MIDDLE between arming and reading a place
+program() {
+    crate "$1" 'mapping stride'
     cat >"$work/crates/$1/src/lib.rt" <<PROGRAM
 #![tactic(auto)]
 
@@ -44,6 +55,16 @@ mapping() {
     echo "$1: units mapping" >>"$work/crates.txt"
     sed -i -e "s/Rattle\.stride\./Rattle.$1./" -e 's/const TYPE: u8 = 3/const TYPE: u8 = 200/' -e 's/TYPE = { 3 }/TYPE = { 200 }/' \
         -e 's/type_number = 3;/type_number = 200;/' -e "$2" "$work/crates/$1"/s*/*.rt "$work/crates/$1"/specs/*.antt
+}
+
+# example NAME: a crate of the Rust code in README.md
+example() {
+    crate "$1" 'plain records mapping stride dense'
+    sed -n '/^```rust$/,/^```$/p' README.md | sed '/^```/d' >"$work/crates/$1/src/lib.rt"
+    if ! grep -q '^pub fn' "$work/crates/$1/src/lib.rt"; then
+        echo 'refused builds: FAILED: README.md has no example'
+        failed=1
+    fi
 }
 
 checked() {
@@ -113,12 +134,15 @@ program address '
         Err(_) => 0,
     }'
 
+example example
+
 mapping third ''
 mapping wide 's/widths = 32/widths = 40/'
 mapping colours 's/TYPE: u8 = 200/TYPE: u8 = 2/; s/TYPE = { 200 }/TYPE = { 2 }/'
 
 accepted used 'a set that is written, armed and used once'
 accepted third 'a mapping of another crate'
+accepted example 'the example of README.md'
 refused written 'borrow-e0382' 'a register written after arming'
 refused twice 'borrow-e0382' 'an armed set used twice'
 refused unarmed 'unknown-method' 'a mapping taken from an unarmed set'
