@@ -6,15 +6,17 @@ work=$(mktemp -d) || exit 2
 trap 'rm -rf "$work"' EXIT
 failed=0
 
-# ends PROGRAM STATUS WORDS [ARGUMENT]: the program, over standard input, ends with this status and says WORDS
+# ends PROGRAM STATUS WORDS [ARGUMENT ..]: the program, over standard input, ends with this status and says WORDS
 ends() {
-    crates/"$1"/out/"$1" ${4+"$4"} >"$work/out" 2>"$work/err"
+    name=$1 due=$2 words=$3
+    shift 3
+    crates/"$name"/out/"$name" "$@" >"$work/out" 2>"$work/err"
     status=$?
-    if [ "$2" -eq 0 ]; then said="$work/out" silent="$work/err"; else said="$work/err" silent="$work/out"; fi
-    if [ "$status" -eq "$2" ] && grep -qF -- "$3" "$said" && [ ! -s "$silent" ]; then
-        echo "program ends: ok, $1 ${4-}: status $status, '$3'"
+    if [ "$due" -eq 0 ]; then said="$work/out" silent="$work/err"; else said="$work/err" silent="$work/out"; fi
+    if [ "$status" -eq "$due" ] && grep -qF -- "$words" "$said" && [ ! -s "$silent" ]; then
+        echo "program ends: ok, $name $*: status $status, '$words'"
     else
-        echo "program ends: FAILED: $1 ${4-}: status $status where $2 is due, or not '$3':"
+        echo "program ends: FAILED: $name $*: status $status where $due is due, or not '$words':"
         head -n 3 "$work/out" "$work/err"
         failed=1
     fi
@@ -22,6 +24,8 @@ ends() {
 
 printf '7' >"$work/one"
 printf '12\n4,5\n' >"$work/comma"
+printf '12\r\n' >"$work/return"
+printf '12\n\n' >"$work/empty"
 seq 31 >"$work/short"
 for program in invoice gather; do
     if ! (cd crates/$program && rt run <stdin) >"$work/built" 2>&1; then
@@ -31,8 +35,13 @@ for program in invoice gather; do
         continue
     fi
     ends $program 0 "usage: $program < PRICES" --help </dev/null
+    ends $program 1 "usage: $program < PRICES" --version </dev/null
+    ends $program 1 "$program: no argument is known but --help" --version </dev/null
+    ends $program 1 "$program: no argument is known but --help" --help --version </dev/null
     ends $program 1 "$program: line 1: there is no price at all" </dev/null
-    ends $program 1 "$program: line 2: this is no decimal number" <"$work/comma"
+    ends $program 1 "$program: line 2: the line is empty" <"$work/empty"
+    ends $program 1 "$program: line 1: a carriage return (byte 13) is no digit" <"$work/return"
+    ends $program 1 "$program: line 2: ',' (byte 44) is no digit" <"$work/comma"
     # one line, and the reason only once
     if [ "$(wc -l <"$work/err")" -ne 1 ]; then
         echo "program ends: FAILED: $program says more than one line:"
@@ -40,6 +49,6 @@ for program in invoice gather; do
         failed=1
     fi
 done
-ends invoice 0 "Read 1 prices, in cents." <"$work/one"
+ends invoice 0 "Read 1 price, in cents." <"$work/one"
 ends gather 1 "gather: line 31: the list ends here, and a dense line takes 32 prices" <"$work/short"
 exit $failed

@@ -1,7 +1,7 @@
 -- Checked memory by the bytes that it borrows. Assumes nothing.
 -- guarding bytes: the meaning of a checked memory over these bytes
 -- updated bytes a bs: what the borrowed bytes are after a write of bs at a
-use Rattle.std.specs.Prelude.{ℕ, ◌+◌, ◌/◌, ◌%◌, cond, List, length, take, is_ok, ◌==◌, slice_index}
+use Rattle.std.specs.Prelude.{ℕ, ◌/◌, ◌%◌, cond, List, length, take, is_ok, ◌==◌, slice_index}
 use Rattle.std.proofs.Common.{arith}
 use Rattle.std.proofs.lemmas.Bool.{cond_both}
 use Rattle.memory.specs.declared.fault.Cause.TheVariants.{FailedCheck}
@@ -9,11 +9,11 @@ use Rattle.memory.specs.Fault.{here}
 use Rattle.memory.specs.Bytes.{overlaid, AllBytes}
 use Rattle.memory.specs.Meaning.{Cell, byte, fault, Meaning, capacity, InRange, WellFormed}
 use Rattle.memory.specs.Calls.{write_answer}
-use Rattle.checked.specs.Line.{exclusive_or, sealed, line_start, line}
+use Rattle.checked.specs.Line.{exclusive_or, sealed, line_start, cell_index, line}
 
 -- a byte, if its line passes the check
 abbrev pub guarded : List ℕ → ℕ → Cell
-guarded bytes a = cond (exclusive_or (line bytes a) == 0) (byte (slice_index bytes (line_start a + a % 128))) (fault (here FailedCheck a))
+guarded bytes a = cond (exclusive_or (line bytes a) == 0) (byte (slice_index bytes (cell_index a))) (fault (here FailedCheck a))
 
 abbrev pub guarding : List ℕ → Meaning
 guarding bytes = record { size = capacity (length bytes / 129); cell = guarded bytes }
@@ -31,6 +31,6 @@ well_formed bytes low = record {
   most = omega arith;
   cells = λ i below.
       cond_both (exclusive_or (line bytes i) == 0) _ _ InRange
-      (λ _. low (line_start i + i % 128))
+      (λ _. low (cell_index i))
       (λ _. record { cause_low = omega arith; cause_high = omega arith; depth = omega arith; place = omega arith });
 }

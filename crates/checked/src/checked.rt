@@ -2,7 +2,7 @@
 ghost use Rattle.std.specs.Prelude.{◌≡◌, ◌+◌, ◌^◌, ◌<◌, ◌≤◌, length, take, Ok};
 ghost use Rattle.memory.specs.Bytes.{AllBytes, overlaid};
 ghost use Rattle.memory.specs.Calls.{read_answer, write_answer, written};
-ghost use Rattle.checked.specs.Line.{exclusive_or, sealed, line_start, line_answer};
+ghost use Rattle.checked.specs.Line.{exclusive_or, sealed, line_start, cell_index, line_answer};
 ghost use Rattle.checked.specs.Checked.{guarding, updated, well_formed};
 
 use memory::{ByteMemory, Cause, Fault, LineFormat, capacity, check_run};
@@ -26,7 +26,7 @@ impl LineFormat for CheckByte {
 
     fn find(lent: &[u8], a: u64, n: usize) -> Result<usize, Fault> {
         answer(lent, a, n)?;
-        Ok(line_start(a) + (a % LINE) as usize)
+        Ok(cell_index(a))
     }
 
     // As in every format, and no more than the order of its own two calls.
@@ -78,6 +78,14 @@ fn line_start(a: u64) -> usize
     (a / LINE) as usize * CHECKED_LINE
 }
 
+// Where the cell of this address stands in the borrowed bytes.
+fn cell_index(a: u64) -> usize
+    requires { cell_index a < 2 ^ 64 }
+    ensures { result ≡ cell_index a }
+{
+    line_start(a) + (a % LINE) as usize
+}
+
 fn exclusive_or(bytes: &[u8]) -> u8
     ensures { result ≡ exclusive_or bytes.now }
 {
@@ -92,5 +100,14 @@ fn store(line: &mut [u8], offset: usize, bytes: &[u8])
 {
     let end = offset + bytes.len();
     line[offset..end].copy_from_slice(bytes);
+    seal(line);
+}
+
+// Makes the last byte of a line the check byte of the others.
+#[tactic(auto, using(crate::proofs::Lines::set_check))]
+fn seal(line: &mut [u8])
+    requires { length line.old ≡ 129 }
+    ensures { line.new ≡ sealed (take 128 line.old) }
+{
     line[128] = exclusive_or(&line[0..128]);
 }

@@ -1,4 +1,4 @@
--- Page colour: the data is spread over the image so that it condition one part, a colour, of each way of a cache. Assumes nothing.
+-- Page colour: the data is spread over the image so that it meets one part, a colour, of each way of a cache. Assumes nothing.
 -- I is the image size, W the way size, C the colour size, F the offset of the colour in a way; s is a window address.
 -- address W C F s: the place of s, where it stands inside the colour
 -- extent I W C: the end of the last way's colour

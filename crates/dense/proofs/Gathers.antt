@@ -70,6 +70,10 @@ module _ {l : Layout} {m : Meaning} {line : List ℕ} {at : ℕ} (g : Gathering 
         fours = omega (arith, g.fours);
       }
 
+-- a piece as it was read: by a memory that means what it meant, at the window address made for it
+pub read_piece : (l : Layout) (m now : Meaning) (at s : ℕ) (r : Result (List ℕ) Fault) (p : List ℕ) → now ≡ m → s ≡ at → r ≡ piece l now s → r ≡ Ok p → piece l m at ≡ Ok p
+read_piece l m now at s r p same here read ok = ap (λ n. piece l n at) (sym same) ∙ ap (piece l now) (sym here) ∙ sym read ∙ ok
+
 pub gathering_all : {l : Layout} {m : Meaning} {line : List ℕ} {at : ℕ} (g : Gathering l m line at) → 128 ≤ at
     → gathered l m ≡ Ok line
 unfolding pieces

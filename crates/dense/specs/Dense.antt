@@ -2,7 +2,7 @@
 -- piece l m s: the four bytes from the window address s on, by the layout l, from the memory m
 -- gathered l m: the 32 pieces of the image's first line, one after the other, or the first refusal
 -- Dense l m line: each byte of the line is the byte of the cell where the layout places it
-use Rattle.std.specs.Prelude.{◌≡◌, ℕ, zero, suc, ◌+◌, ◌*◌, ◌<◌, cond, List, [], ◌++◌, length, sum_by, Some, None, Ok, Err, Option, Result, nat_lt, slice_index}
+use Rattle.std.specs.Prelude.{◌≡◌, ℕ, zero, suc, ◌+◌, ◌*◌, ◌<◌, List, [], ◌++◌, length, Some, None, Ok, Err, Option, Result, slice_index}
 use Rattle.std.specs.Result.{result_map_both}
 use Rattle.memory.specs.declared.fault.Cause.TheVariants.{Blank}
 use Rattle.memory.specs.declared.fault.Fault.{Fault}

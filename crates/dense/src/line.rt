@@ -22,10 +22,16 @@ pub fn gather<M: Memory, P: Mapping>(memory: &mut M, mapping: &P) -> Result<[u8;
     // By indices: tried with `chunks_exact_mut`, and no proof knows what its writes leave in the line. A word is the least grain of a
     // mapping, so no price leaves its grain.
     for at in (0..line.len()).step_by(WORD) {
-        let piece = gather_price(memory, mapping, WindowAddress(at as u64))?;
+        let piece = gather_price(memory, mapping, window_address(at))?;
         line[at..at + WORD].copy_from_slice(&piece);
     }
     Ok(line)
+}
+
+fn window_address(at: usize) -> WindowAddress
+    ensures { result.0 ≡ at }
+{
+    WindowAddress(at as u64)
 }
 
 // The four bytes of the price at a window address: blank where the mapping gives nothing, and what the memory refuses is passed up.

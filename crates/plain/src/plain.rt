@@ -25,7 +25,7 @@ impl LineFormat for CellsAlone {
 
     fn find(lent: &[u8], a: u64, n: usize) -> Result<usize, Fault> {
         answer(lent, a, n)?;
-        Ok(a as usize)
+        Ok(cell_index(a))
     }
 
     // As in every format, and no more than the order of its own two calls.
@@ -44,6 +44,13 @@ fn answer(lent: &[u8], a: u64, n: usize) -> Result<(), Fault>
     check_run(CellsAlone::size(lent), a, n)
 }
 
+// Where the cell of this address stands in the borrowed bytes.
+fn cell_index(a: u64) -> usize
+    ensures { result ≡ a }
+{
+    a as usize
+}
+
 // Puts the bytes into a run that is accepted.
 fn copy_in(lent: &mut [u8], a: u64, bytes: &[u8])
     requires { write_answer (holding lent.old) a (length bytes.now) ≡ Ok tt }
@@ -51,6 +58,6 @@ fn copy_in(lent: &mut [u8], a: u64, bytes: &[u8])
     ensures meaning { holding lent.new ≡ written (holding lent.old) a bytes.now }
     ensures bytes { AllBytes lent.new }
 {
-    let at = a as usize;
+    let at = cell_index(a);
     lent[at..at + bytes.len()].copy_from_slice(bytes);
 }

@@ -1,5 +1,5 @@
 // The column of all prices: written as records, read back and added up.
-ghost use Rattle.std.specs.Prelude.{◌≡◌, IfOk};
+ghost use Rattle.std.specs.Prelude.{◌≡◌, ◌*◌, ◌^◌, ◌<◌, IfOk};
 ghost use Rattle.memory.specs.Reach.{Linked, Reached};
 ghost use Rattle.memory.specs.Relation.{Kept};
 ghost use Rattle.records.specs.Column.{records_answer, records_written, record_writes, prices_read, total, readable};
@@ -23,9 +23,17 @@ pub fn write_records<M: Memory>(memory: &mut M, prices: &[u32]) -> Result<(), Fa
     ensures reached { Reached M.step memory.old memory.new }
 {
     for (index, price) in prices.iter().enumerate() {
-        memory.write(index as u64 * LINE, &record_of(*price))?;
+        memory.write(record_address(index), &record_of(*price))?;
     }
     Ok(())
+}
+
+// Where the record of this index begins.
+fn record_address(index: usize) -> u64
+    requires { index * 128 < 2 ^ 64 }
+    ensures { result ≡ index * 128 }
+{
+    index as u64 * LINE
 }
 
 // Reads the prices of the first `count` records.

@@ -1,4 +1,4 @@
-// The worked examples of docs/: computed by the library, and proved from its definitions.
+// Worked examples: of runs, computed by the library, and of runs and mappings, proved from the definitions.
 ghost use Rattle.std.specs.Prelude.{◌≡◌};
 ghost use Rattle.samples.specs.Mappings.{MappingExamples};
 ghost use Rattle.samples.specs.Runs.{run_answers, RunExamples};

@@ -1,4 +1,4 @@
-// The worked examples of docs/.
+// Worked examples of runs and of mappings.
 #![tactic(auto)]
 
 mod examples;

@@ -5,6 +5,7 @@ use lib.Arith.{bin_ind}
 use lib.Count.{ones, ones_step, ones_cat, ones-le}
 use lib.Pow.{pow-lt}
 use Rattle.std.proofs.lemmas.Bool.{eqb-true, eq-eqb, cases_lt}
+use Rattle.std.specs.Prelude.{Decides}
 use Rattle.units.specs.Power.{is_power_of_two, PowerOfTwo}
 
 -- a number without a bit set is 0
@@ -51,3 +52,6 @@ power_pow k = eq-eqb (ones (2 ^ k)) 1 (
     let one : ones 1 ≡ 1 + ones 0 = ones_step 1 in
     let none = ones-le 0 0 (lit< tt) in
     omega arith)
+
+pub one_bit : (n : ℕ) → Decides (is_power_of_two n) (PowerOfTwo n)
+one_bit n = (power_is n, λ power. ap is_power_of_two power.1 ∙ power_pow power.0)

@@ -1,8 +1,8 @@
 -- Assumes nothing.
-use Rattle.std.proofs.Common.{◌≡◌, Ok, refl, sym, ap, ◌∙◌, arith}
+use Rattle.std.proofs.Common.{◌≡◌, Ok, refl, sym, ◌∙◌, arith}
 use Rattle.memory.proofs.Reaches.{reached_none, reached_more}
 use Rattle.dense.specs.Dense.{piece}
-use Rattle.dense.proofs.Gathers.{gathering_none, gathering_more, gathering_all}
+use Rattle.dense.proofs.Gathers.{read_piece, gathering_none, gathering_more, gathering_all}
 use Rattle.dense.proofs.Grains.{dense}
 use Rattle.dense.proofs.line.gather.Goals as goal
 
@@ -15,7 +15,7 @@ loop-at-preserved g c =
     let at = c.loop-at.at in
     let same = c.loop-at.invariant.1 in
     let read : piece l (g.M.Memory.meaning c.args.memory.now) at ≡ Ok c.in_ok-piece.piece =
-    ap (λ n. piece l n at) (sym same) ∙ sym c.gather_price.ensures.value ∙ c.in_ok-piece.was in (
+    read_piece l _ _ at _ _ _ same c.window_address.ensures c.gather_price.ensures.value c.in_ok-piece.was in (
       gathering_more c.loop-at.invariant.0 c.loop-at-test.true _ _ _ read c.copy_from_slice.ensures.after (omega arith),
       c.gather_price.ensures.meaning ∙ same,
       c.gather_price.ensures.coherent,

@@ -8,16 +8,21 @@ use Rattle.plain.proofs.Plains.{write_inside, write_bytes, write_meaning}
 use Rattle.plain.proofs.plain.copy_in.Goals as goal
 
 pub overflow_add-at : goal.overflow_add-at
-overflow_add-at c = record { fits = omega (arith, write_inside c.args.lent.now c.args.a (length c.args.bytes.now) c.requires) }
+overflow_add-at c =
+    record { fits = omega (arith, c.cell_index-at.ensures, write_inside c.args.lent.now c.args.a (length c.args.bytes.now) c.requires) }
 
 pub slice_bounds-copy_from_slice-end : goal.slice_bounds-copy_from_slice-end
-slice_bounds-copy_from_slice-end c = omega (arith, write_inside c.args.lent.now c.args.a (length c.args.bytes.now) c.requires)
+slice_bounds-copy_from_slice-end c =
+    omega (arith, c.cell_index-at.ensures, write_inside c.args.lent.now c.args.a (length c.args.bytes.now) c.requires)
 
 pub returns : goal.returns
 returns c =
     let xs = c.args.lent.now in
     let a = c.args.a in
     let bs = c.args.bytes.now in
-    let laid : put_mid a (a + length bs - a) xs c.copy_from_slice.new.self ≡ overlaid xs a bs =
-    ap (put_mid a (a + length bs - a) xs) c.copy_from_slice.ensures.after ∙ overlaid_part xs bs a _ (omega arith) in
+    let at = c.cell_index-at.result in
+    let laid : put_mid at (at + length bs - at) xs c.copy_from_slice.new.self ≡ overlaid xs a bs =
+    ap (put_mid at (at + length bs - at) xs) c.copy_from_slice.ensures.after
+    ∙ overlaid_part xs bs at _ (omega arith)
+    ∙ ap (λ k. overlaid xs k bs) c.cell_index-at.ensures in
     record { lent = laid ∙ write_bytes xs a bs c.requires; meaning = ap holding laid ∙ write_meaning xs a bs c.requires; bytes = search rules }
