@@ -53,7 +53,7 @@ mapping() {
     cp -R crates/stride "$work/crates/$1"
     rm -rf "$work/crates/$1/out" "$work/crates/$1/must-fail"
     echo "$1: units mapping" >>"$work/crates.txt"
-    sed -i -e "s/Rattle\.stride\./Rattle.$1./" -e 's/const TYPE: u8 = 3/const TYPE: u8 = 200/' -e 's/TYPE = { 3 }/TYPE = { 200 }/' \
+    sed -i -e "s/Rattle\.stride\./Rattle.$1./" -e 's/const TYPE_NUMBER: u8 = 3/const TYPE_NUMBER: u8 = 200/' -e 's/TYPE_NUMBER = { 3 }/TYPE_NUMBER = { 200 }/' \
         -e 's/type_number = 3;/type_number = 200;/' -e "$2" "$work/crates/$1"/s*/*.rt "$work/crates/$1"/specs/*.antt
 }
 
@@ -138,7 +138,7 @@ example example
 
 mapping third ''
 mapping wide 's/widths = 32/widths = 40/'
-mapping colours 's/TYPE: u8 = 200/TYPE: u8 = 2/; s/TYPE = { 200 }/TYPE = { 2 }/'
+mapping colours 's/TYPE_NUMBER: u8 = 200/TYPE_NUMBER: u8 = 2/; s/TYPE_NUMBER = { 200 }/TYPE_NUMBER = { 2 }/'
 
 accepted used 'a set that is written, armed and used once'
 accepted third 'a mapping of another crate'

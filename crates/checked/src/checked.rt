@@ -3,7 +3,7 @@ ghost use Rattle.std.specs.Prelude.{◌≡◌, ◌+◌, ◌^◌, ◌<◌, ◌≤
 ghost use Rattle.memory.specs.Bytes.{AllBytes, overlaid};
 ghost use Rattle.memory.specs.Calls.{read_answer, write_answer, written};
 ghost use Rattle.checked.specs.Line.{exclusive_or, sealed, line_start, cell_index, line_answer};
-ghost use Rattle.checked.specs.Checked.{guarding, updated, well_formed};
+ghost use Rattle.checked.specs.Checked.{checked_meaning, updated, well_formed};
 
 use memory::{ByteMemory, Cause, Fault, LineFormat, capacity, check_run};
 use units::{CHECKED_LINE, LINE};
@@ -14,60 +14,60 @@ pub struct CheckByte;
 pub type Checked<'a> = ByteMemory<'a, CheckByte>;
 
 impl LineFormat for CheckByte {
-    ghost meaning = { guarding };
+    ghost meaning = { checked_meaning };
 
     ghost updated = { updated };
 
     ghost formed = { well_formed };
 
-    fn size(lent: &[u8]) -> u64 {
-        capacity((lent.len() / CHECKED_LINE) as u64)
+    fn size(borrowed: &[u8]) -> u64 {
+        capacity((borrowed.len() / CHECKED_LINE) as u64)
     }
 
-    fn find(lent: &[u8], a: u64, n: usize) -> Result<usize, Fault> {
-        answer(lent, a, n)?;
+    fn find(borrowed: &[u8], a: u64, n: usize) -> Result<usize, Fault> {
+        answer(borrowed, a, n)?;
         Ok(cell_index(a))
     }
 
     // As in every format, and no more than the order of its own two calls.
-    fn write(lent: &mut [u8], a: u64, bytes: &[u8]) -> Result<(), Fault> {
-        answer(lent, a, bytes.len())?;
-        copy_in(lent, a, bytes);
+    fn write(borrowed: &mut [u8], a: u64, bytes: &[u8]) -> Result<(), Fault> {
+        answer(borrowed, a, bytes.len())?;
+        copy_in(borrowed, a, bytes);
         Ok(())
     }
 }
 
 // The answer to a run: its cells are bytes if its line passes the check.
-fn answer(lent: &[u8], a: u64, n: usize) -> Result<(), Fault>
-    ensures read { result ≡ read_answer (guarding lent.now) a n }
-    ensures write { result ≡ write_answer (guarding lent.now) a n }
+fn answer(borrowed: &[u8], a: u64, n: usize) -> Result<(), Fault>
+    ensures read { result ≡ read_answer (checked_meaning borrowed.now) a n }
+    ensures write { result ≡ write_answer (checked_meaning borrowed.now) a n }
 {
-    check_run(CheckByte::size(lent), a, n)?;
-    line_answer(lent, a)
+    check_run(CheckByte::size(borrowed), a, n)?;
+    line_answer(borrowed, a)
 }
 
 // The line of this address passes its check, or the fault of the cell there.
-fn line_answer(lent: &[u8], a: u64) -> Result<(), Fault>
-    requires { line_start a + 129 ≤ length lent.now }
-    ensures { result ≡ line_answer lent.now a }
+fn line_answer(borrowed: &[u8], a: u64) -> Result<(), Fault>
+    requires { line_start a + 129 ≤ length borrowed.now }
+    ensures { result ≡ line_answer borrowed.now a }
 {
     let from = line_start(a);
-    if exclusive_or(&lent[from..from + CHECKED_LINE]) != 0 {
+    if exclusive_or(&borrowed[from..from + CHECKED_LINE]) != 0 {
         return Err(Fault::here(Cause::FailedCheck, a));
     }
     Ok(())
 }
 
 // Puts the bytes into a run that is accepted.
-fn copy_in(lent: &mut [u8], a: u64, bytes: &[u8])
-    requires { write_answer (guarding lent.old) a (length bytes.now) ≡ Ok tt }
-    ensures lent { lent.new ≡ updated lent.old a bytes.now }
-    ensures meaning { guarding lent.new ≡ written (guarding lent.old) a bytes.now }
-    ensures bytes { AllBytes lent.new }
+fn copy_in(borrowed: &mut [u8], a: u64, bytes: &[u8])
+    requires { write_answer (checked_meaning borrowed.old) a (length bytes.now) ≡ Ok tt }
+    ensures borrowed { borrowed.new ≡ updated borrowed.old a bytes.now }
+    ensures meaning { checked_meaning borrowed.new ≡ written (checked_meaning borrowed.old) a bytes.now }
+    ensures bytes { AllBytes borrowed.new }
 {
     let from = line_start(a);
     let offset = (a % LINE) as usize;
-    store(&mut lent[from..from + CHECKED_LINE], offset, bytes);
+    store(&mut borrowed[from..from + CHECKED_LINE], offset, bytes);
 }
 
 // Where the line of this address begins in the borrowed bytes.

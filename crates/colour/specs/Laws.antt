@@ -25,8 +25,8 @@ record Conditioned (I W C F : ℕ) : Type 0 where
 lines : (n : ℕ) → is_power_of_two n ≡ true → 4096 ≤ n → n % 128 ≡ 0
 lines n one large = power_divides 128 n (power_pow 7) one (omega arith)
 
-conditioned : (I W C F : ℕ) → condition I W C F ≡ true → Conditioned I W C F
-conditioned I W C F passed =
+is_conditioned : (I W C F : ℕ) → condition I W C F ≡ true → Conditioned I W C F
+is_conditioned I W C F passed =
     let a = and_parts (is_power_of_two W && nat_le 4096 W && is_power_of_two C && nat_le 4096 C && divides 4096 F && nat_le (F + C) W) (divides W I) passed in
     let b = and_parts (is_power_of_two W && nat_le 4096 W && is_power_of_two C && nat_le 4096 C && divides 4096 F) (nat_le (F + C) W) a.0 in
     let c = and_parts (is_power_of_two W && nat_le 4096 W && is_power_of_two C && nat_le 4096 C) (divides 4096 F) b.0 in
@@ -49,8 +49,8 @@ record Shown (W C F s v : ℕ) : Type 0 where
   before : s % W < F + C
   place : s / W * C + (s % W - F) ≡ v
 
-shown : (W C F s v : ℕ) → address W C F s ≡ Some v → Shown W C F s v
-shown W C F s v found =
+is_shown : (W C F s v : ℕ) → address W C F s ≡ Some v → Shown W C F s v
+is_shown W C F s v found =
     let test = nat_le F (s % W) && ltb (s % W) (F + C) in
     ⊎_elim
     (λ inside.
@@ -67,15 +67,15 @@ shown W C F s v found =
 module _ (I W C F : ℕ) (c : Conditioned I W C F) where
   within : (s v : ℕ) → s < I → address W C F s ≡ Some v → v < extent I W C
   within s v below found =
-      let h = shown W C F s v found in
+      let h = is_shown W C F s v found in
       let count = quotient_below s I W c.some c.whole below in
       let ways = mul-le (s / W + 1) C (I / W) C (omega arith) (omega arith) in
       omega (arith, add-mul (s / W) 1 C)
 
   apart : (s t v : ℕ) → address W C F s ≡ Some v → address W C F t ≡ Some v → s ≡ t
   apart s t v one two =
-      let h = shown W C F s v one in
-      let g = shown W C F t v two in
+      let h = is_shown W C F s v one in
+      let g = is_shown W C F t v two in
       let both = rows_apart (s / W) (s % W - F) (t / W) (t % W - F) C (omega arith) (omega arith) (omega arith) in
       split_apart s t W both.0 (omega (arith, both.1))
 
@@ -136,20 +136,20 @@ module _ (I W C F : ℕ) (c : Conditioned I W C F) where
 
   line : (k v : ℕ) → address W C F (k * 128) ≡ Some v → v % 128 + 128 ≤ 128
   line k v found =
-      let h = shown W C F (k * 128) v found in
+      let h = is_shown W C F (k * 128) v found in
       let q = k * 128 / W in
       let r = k * 128 % W in
       let inner : (r - F) % 128 ≡ 0 = mod-eq-zero_of_dvd 128 (dvd-sub 128 (dvd_of_mod-eq-zero 128 (even k)) (dvd_of_mod-eq-zero 128 c.offset)) in
       let whole : v % 128 ≡ 0 = sym (ap (λ n. n % 128) h.place) ∙ skip_multiple (q * C) (r - F) 128 (times_multiple q C 128 c.size) ∙ inner in
       omega arith
 
-pub addressed : (rs : List ℕ) → Tested colour_rules rs → Addressed colour_rules rs
-addressed rs t =
+pub is_addressed : (rs : List ℕ) → Tested colour_rules rs → Addressed colour_rules rs
+is_addressed rs t =
     let I = image_size rs in
     let W = way_size rs in
     let C = colour_size rs in
     let F = colour_offset rs in
-    let c = conditioned I W C F t.condition in
+    let c = is_conditioned I W C F t.condition in
     record {
       grain_power = power_pow 7;
       grain_least = lit≤ tt;

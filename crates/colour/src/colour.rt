@@ -1,9 +1,9 @@
 // Page colour: the data is spread over the image so that it meets one part, a colour, of each way of a cache.
 ghost use Rattle.std.specs.Prelude.{◌≡◌, ◌<◌, refl};
 ghost use Rattle.mapping.specs.Registers.{Fits};
-ghost use Rattle.mapping.proofs.Laws.{lawful};
+ghost use Rattle.mapping.proofs.Laws.{is_lawful};
 ghost use Rattle.colour.specs.Colour.{colour_rules, values};
-ghost use Rattle.colour.specs.Laws.{addressed};
+ghost use Rattle.colour.specs.Laws.{is_addressed};
 
 use mapping::{
     Addressing, ArmedRegisters, CommonRegisters, PseudoVirtualAddress, Register, RegisterRecord,
@@ -85,14 +85,14 @@ impl RegisterRecord for ColourRegisters {
 }
 
 impl Addressing for ColourRegisters {
-    const TYPE: u8 = 2;
+    const TYPE_NUMBER: u8 = 2;
 
-    ghost TYPE = { 2 };
+    ghost TYPE_NUMBER = { 2 };
 
     ghost numbered = { refl };
 
-    // One form in each mapping, by the laws of its own rules; `lawful` has what all share.
-    ghost laws = { λ r armed. lawful colour_rules (values r) refl armed (addressed (values r)) };
+    // One form in each mapping, by the laws of its own rules; `is_lawful` has what all share.
+    ghost laws = { λ r armed. is_lawful colour_rules (values r) refl armed (is_addressed (values r)) };
 
     fn grain(&self) -> u64 {
         LINE

@@ -6,8 +6,8 @@ use Rattle.mapping.proofs.Laws.{Tested, Addressed}
 use Rattle.units.proofs.Powers.{power_pow}
 use Rattle.direct.specs.Direct.{direct_rules}
 
-pub addressed : (rs : List ℕ) → Tested direct_rules rs → Addressed direct_rules rs
-addressed rs _ = record {
+pub is_addressed : (rs : List ℕ) → Tested direct_rules rs → Addressed direct_rules rs
+is_addressed rs _ = record {
   grain_power = power_pow 7;
   grain_least = lit≤ tt;
   grain_most = lit≤ tt;

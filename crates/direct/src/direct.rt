@@ -1,8 +1,8 @@
 // Direct: the image is the data, byte by byte.
 ghost use Rattle.std.specs.Prelude.{◌≡◌, refl};
-ghost use Rattle.mapping.proofs.Laws.{lawful};
+ghost use Rattle.mapping.proofs.Laws.{is_lawful};
 ghost use Rattle.direct.specs.Direct.{direct_rules, values};
-ghost use Rattle.direct.specs.Laws.{addressed};
+ghost use Rattle.direct.specs.Laws.{is_addressed};
 
 use mapping::{
     Addressing, ArmedRegisters, CommonRegisters, PseudoVirtualAddress, RegisterRecord,
@@ -43,14 +43,14 @@ impl RegisterRecord for DirectRegisters {
 }
 
 impl Addressing for DirectRegisters {
-    const TYPE: u8 = 1;
+    const TYPE_NUMBER: u8 = 1;
 
-    ghost TYPE = { 1 };
+    ghost TYPE_NUMBER = { 1 };
 
     ghost numbered = { refl };
 
-    // One form in each mapping, by the laws of its own rules; `lawful` has what all share.
-    ghost laws = { λ r armed. lawful direct_rules (values r) refl armed (addressed (values r)) };
+    // One form in each mapping, by the laws of its own rules; `is_lawful` has what all share.
+    ghost laws = { λ r armed. is_lawful direct_rules (values r) refl armed (is_addressed (values r)) };
 
     fn grain(&self) -> u64 {
         LINE

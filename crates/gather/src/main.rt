@@ -2,13 +2,11 @@
 #![tactic(auto)]
 
 ghost use Rattle.std.specs.Prelude.{IfOk};
-ghost use Rattle.mapping.specs.Arming.{ArmedValues};
-ghost use Rattle.stride.specs.Stride.{stride_rules, values};
 
-use anyhow::{Context, anyhow, bail};
+use anyhow::{Context, bail};
 use console::start;
 use dense::gather;
-use mapping::{ArmedSet, Mapping, RegisterSet};
+use mapping::{ArmedSet, ArmingRefusal, Mapping, RegisterSet};
 use plain::Plain;
 use records::{PRICES, line_total, price_at, write_records};
 use std::process::ExitCode;
@@ -37,8 +35,9 @@ fn dense_line(rt: &HostRuntime, prices: &[u32]) -> anyhow::Result<()> {
     write_records(&mut memory, prices).context("the records were not written")?;
     println!(rt; "Wrote {count} records of 128 bytes, the price at offset 8.")?;
     println!(rt; "A stride mapping over them, by its registers:")?;
-    let mapping = set_up(rt, &[128, 0, 4, 128, 8])?.into_mapping();
-    let (number, size) = (Stride::TYPE, mapping.image_size());
+    let set = set_up(rt, &[128, 0, 4, 128, 8])?.context("the mapping was not armed")?;
+    let mapping = set.into_mapping();
+    let (number, size) = (Stride::TYPE_NUMBER, mapping.image_size());
     let (grain, extent) = (mapping.grain(), mapping.extent());
     println!(rt; "  armed: type {number}, image size {size}, grain {grain}, extent {extent}")?;
     let line = gather(&mut memory, &mapping).context("the prices were not gathered")?;
@@ -47,16 +46,18 @@ fn dense_line(rt: &HostRuntime, prices: &[u32]) -> anyhow::Result<()> {
 }
 
 // Writes the registers from 0 on, each shown, and arms the set.
-fn set_up(rt: &HostRuntime, settings: &[u64]) -> anyhow::Result<ArmedSet<Stride>>
-    ensures { IfOk result (λ set. ArmedValues stride_rules (values set.mapping.registers)) }
+fn set_up(
+    rt: &HostRuntime,
+    settings: &[u64],
+) -> anyhow::Result<Result<ArmedSet<Stride>, ArmingRefusal>>
+    ensures { IfOk result (λ answer. IfOk answer (λ set. ⟦<Stride as Mapping>⟧.armed set.mapping)) }
 {
     let mut set = RegisterSet::<Stride>::new();
     for (number, value) in (0..).zip(settings) {
         println!(rt; "  register {number} takes {value}")?;
         set.write(number, *value)?;
     }
-    set.arm()
-        .map_err(|(refusal, _)| anyhow!("not armed: {refusal}"))
+    Ok(set.arm().map_err(|(refusal, _)| refusal))
 }
 
 fn show_line(rt: &HostRuntime, line: &[u8; 128], count: usize) -> anyhow::Result<()> {
@@ -76,27 +77,23 @@ fn show_line(rt: &HostRuntime, line: &[u8; 128], count: usize) -> anyhow::Result
 
 // Three set-ups that are refused, and why.
 fn show_refusals(rt: &HostRuntime) -> anyhow::Result<()> {
+    println!(rt; "An image of 100 bytes is no whole line:")?;
+    show_refusal(rt, &[100, 0, 4, 128, 8], ArmingRefusal::BadImage)?;
+    println!(rt; "An object of 4 bytes at offset 126 crosses the end of a line:")?;
+    show_refusal(rt, &[128, 0, 4, 256, 126], ArmingRefusal::BadCondition)?;
+    println!(rt; "An image of 536871040 bytes, a line from each page, reaches too far:")?;
     show_refusal(
         rt,
-        "An image of 100 bytes is no whole line:",
-        &[100, 0, 4, 128, 8],
-    )?;
-    show_refusal(
-        rt,
-        "An object of 4 bytes at offset 126 crosses the end of a line:",
-        &[128, 0, 4, 256, 126],
-    )?;
-    show_refusal(
-        rt,
-        "An image of 536871040 bytes, a line from each page, reaches too far:",
         &[536_871_040, 0, 128, 4096, 3968],
+        ArmingRefusal::TooFar,
     )
 }
 
-fn show_refusal(rt: &HostRuntime, words: &str, settings: &[u64]) -> anyhow::Result<()> {
-    println!(rt; "{words}")?;
-    match set_up(rt, settings) {
-        Ok(_) => bail!("this set-up was not refused"),
-        Err(refusal) => Ok(println!(rt; "  {refusal}")?),
+// A set-up that is refused just so: any other answer is an error.
+fn show_refusal(rt: &HostRuntime, settings: &[u64], due: ArmingRefusal) -> anyhow::Result<()> {
+    match set_up(rt, settings)? {
+        Err(refusal) if refusal == due => Ok(println!(rt; "  not armed: {refusal}")?),
+        Err(other) => bail!("the set-up was refused otherwise: {other}"),
+        Ok(_) => bail!("the set-up was not refused"),
     }
 }

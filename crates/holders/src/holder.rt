@@ -1,4 +1,4 @@
-// The least layer: a mapping, and what stands below.
+// A mapping by value over what stands below: as a layer is built, and no more.
 ghost use Rattle.std.specs.Prelude.{◌≡◌};
 
 use mapping::Mapping;
@@ -14,6 +14,12 @@ impl<P, M> Holder<P, M> {
         ensures { result ≡ record { mapping = mapping; below = below } }
     {
         Holder { mapping, below }
+    }
+
+    pub fn below(&self) -> &M
+        ensures { result.now ≡ self.now.below }
+    {
+        &self.below
     }
 }
 

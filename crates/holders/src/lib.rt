@@ -1,4 +1,4 @@
-// That a stack of layers, each with a mapping, can be built over lent bytes: what a layer holds by value has no ghost
+// That a stack of layers, each with a mapping, can be built over borrowed bytes: what a layer holds by value has no ghost
 // field, so two and three of them are covered by the check.
 #![tactic(auto)]
 

@@ -5,7 +5,7 @@ use anyhow::Context;
 use checked::{Checked, flip};
 use checked_records::write_checked_records;
 use console::start;
-use records::{Reading, read_prices, readable, total, write_price};
+use records::{PriceAnswer, read_prices, readable, total, write_price};
 use std::process::ExitCode;
 use units::CHECKED_LINE;
 
@@ -68,7 +68,7 @@ fn show(rt: &HostRuntime, bytes: &mut [u8], count: u32) -> anyhow::Result<()> {
     show_total(rt, &readings)
 }
 
-fn show_total(rt: &HostRuntime, readings: &[Reading]) -> anyhow::Result<()> {
+fn show_total(rt: &HostRuntime, readings: &[PriceAnswer]) -> anyhow::Result<()> {
     match total(readings) {
         Ok(sum) => println!(rt; "  total: {sum} cents")?,
         Err(fault) => {

@@ -15,7 +15,7 @@ use Rattle.units.proofs.Powers.{power_is, power_divides, power_pow}
 
 -- what arming has tested
 pub record Tested (rules : Rules) (rs : List ℕ) : Type 0 where
-  pub image_some : 0 < image_size rs
+  pub image_positive : 0 < image_size rs
   pub image_lines : image_size rs % 128 ≡ 0
   pub condition : rules.condition rs ≡ true
   pub extent_most : rules.extent rs ≤ 2 ^ 34
@@ -26,13 +26,13 @@ passed_all false false c e = absurd (false≢true e)
 passed_all false true true e = absurd (false≢true e)
 passed_all false true false e = (refl, refl, refl)
 
-pub tested : (rules : Rules) (rs : List ℕ) → arms rules rs ≡ true → Tested rules rs
-tested rules rs passed =
+pub is_tested : (rules : Rules) (rs : List ℕ) → arms rules rs ≡ true → Tested rules rs
+is_tested rules rs passed =
     let tests = passed_all (eqb (image_size rs) 0 || not (divides 128 (image_size rs))) (rules.condition rs) (ltb (2 ^ 34) (rules.extent rs)) passed in
     let good = or_parts (eqb (image_size rs) 0) (not (divides 128 (image_size rs))) tests.0 in
     let lines = eqb-true (image_size rs % 128) 0 (not-false (divides 128 (image_size rs)) good.1) in
     let some : image_size rs ≡ 0 → ⊥ = eqb-false (image_size rs) 0 good.0 in
-    record { image_some = omega arith; image_lines = lines; condition = tests.1; extent_most = ltb-false (2 ^ 34) (rules.extent rs) tests.2 }
+    record { image_positive = omega arith; image_lines = lines; condition = tests.1; extent_most = ltb-false (2 ^ 34) (rules.extent rs) tests.2 }
 
 -- what the rules of a mapping show of registers that arm, of addresses inside the image
 pub record Addressed (rules : Rules) (rs : List ℕ) : Type 0 where
@@ -70,12 +70,12 @@ module _ (rules : Rules) (rs : List ℕ) where
       (cases_lt (k * g) (image_size rs))
 
   -- The laws of an armed mapping, from what its rules show.
-  pub lawful : take 2 rules.widths ≡ common_widths → ArmedValues rules rs → (Tested rules rs → Addressed rules rs) → Lawful (layout_of rules rs)
-  lawful shared armed show =
-      let t = tested rules rs armed.passed in
+  pub is_lawful : take 2 rules.widths ≡ common_widths → ArmedValues rules rs → (Tested rules rs → Addressed rules rs) → Lawful (layout_of rules rs)
+  is_lawful shared armed show =
+      let t = is_tested rules rs armed.passed in
       let a = show t in
       record {
-        image_some = t.image_some;
+        image_positive = t.image_positive;
         image_lines = t.image_lines;
         image_low = shared_fits rules.widths rs shared armed.fit 0 (lit< tt);
         table_low = shared_fits rules.widths rs shared armed.fit 1 (lit< tt);

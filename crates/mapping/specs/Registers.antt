@@ -1,5 +1,5 @@
 -- Registers by number: which writes are refused, and what the others leave. Assumes nothing.
--- The values of a mapping's registers are a list of numbers, and their widths a list as long; register n is the one at place n.
+-- The values of a mapping's registers are a list of numbers, and their widths a list as long; register n is the one at index n.
 -- Fits ws rs: there are as many values as widths, and each value is below 2 ^ its width
 -- cleared ws: all registers 0
 -- width_answer w v: acceptance of the value v by a register of w bits, or the refusal

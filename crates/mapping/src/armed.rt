@@ -13,10 +13,10 @@ use crate::refusal::ArmingRefusal;
 // What a mapping's registers say of the image: all that one mapping has and another has not.
 pub trait Addressing: RegisterRecord {
     // The type number.
-    const TYPE: u8;
+    const TYPE_NUMBER: u8;
 
     // The same for clauses, as in `Mapping`.
-    ghost TYPE: { ℕ };
+    ghost TYPE_NUMBER: { ℕ };
 
     fn grain(&self) -> u64
         ensures { result ≡ Self.rules.grain (Self.values self.now) };
@@ -27,12 +27,12 @@ pub trait Addressing: RegisterRecord {
         requires { ArmedValues Self.rules (Self.values self.now) }
         ensures { option_map (λ v. v.0) result ≡ placed Self.rules (Self.values self.now) s.0 };
 
-    ghost numbered: { TYPE ≡ Self.rules.type_number };
+    ghost numbered: { TYPE_NUMBER ≡ Self.rules.type_number };
 
     ghost laws: { (r : Self) → ArmedValues Self.rules (Self.values r) → Lawful (layout_of Self.rules (Self.values r)) };
 }
 
-// Registers that have armed, as `armed` says of every one that arming made. Plain numbers: a stack of layers over lent bytes is not
+// Registers that have armed, as `armed` says of every one that arming made. Plain numbers: a stack of layers over borrowed bytes is not
 // covered by the check where one of them holds a ghost field.
 #[derive(Drop)]
 pub struct ArmedRegisters<R: Addressing> {
@@ -42,9 +42,9 @@ pub struct ArmedRegisters<R: Addressing> {
 impl<R: Addressing> Mapping for ArmedRegisters<R> {
     type Registers = R;
 
-    const TYPE: u8 = R::TYPE;
+    const TYPE_NUMBER: u8 = R::TYPE_NUMBER;
 
-    ghost TYPE = { R.TYPE };
+    ghost TYPE_NUMBER = { R.TYPE_NUMBER };
 
     ghost values = { λ m. R.values m.registers };
 
@@ -54,9 +54,11 @@ impl<R: Addressing> Mapping for ArmedRegisters<R> {
 
     ghost numbered = { R.numbered };
 
+    ghost passed = { λ m armed. armed };
+
     ghost meant = { λ m _. refl };
 
-    ghost lawful = { λ m. R.laws m.registers };
+    ghost laws = { λ m. R.laws m.registers };
 
     fn arm(registers: R) -> Result<ArmedRegisters<R>, (ArmingRefusal, R)> {
         // The registers go into either answer, so a match and not two closures.

@@ -6,7 +6,7 @@ ghost use Rattle.mapping.specs.Registers.{Fits, cleared, register_answer, regist
 ghost use Rattle.mapping.specs.Common.{common_widths, common_values};
 ghost use Rattle.mapping.specs.Rules.{Rules, Layout, layout_of, image_size, table_page, checked_extent};
 ghost use Rattle.mapping.specs.Laws.{Lawful};
-ghost use Rattle.mapping.specs.Arming.{check_arming};
+ghost use Rattle.mapping.specs.Arming.{check_arming, ArmedValues};
 
 use crate::address::{PseudoVirtualAddress, WindowAddress};
 use crate::common::CommonRegisters;
@@ -47,10 +47,10 @@ pub trait Mapping: Drop {
     type Registers: RegisterRecord;
 
     // The type number.
-    const TYPE: u8;
+    const TYPE_NUMBER: u8;
 
     // The same for clauses, which cannot name the constant; the check proves the two equal.
-    ghost TYPE: { ℕ };
+    ghost TYPE_NUMBER: { ℕ };
 
     // The values of the registers that it was armed from, by their number.
     ghost values: { Self → List ℕ };
@@ -89,9 +89,12 @@ pub trait Mapping: Drop {
         requires { armed self.now }
         ensures { option_map (λ v. v.0) result ≡ (meaning self.now).place s.0 };
 
-    ghost numbered: { TYPE ≡ Self.Registers.rules.type_number };
+    ghost numbered: { TYPE_NUMBER ≡ Self.Registers.rules.type_number };
+
+    // What arming tested.
+    ghost passed: { (m : Self) → armed m → ArmedValues Self.Registers.rules (values m) };
 
     ghost meant: { (m : Self) → armed m → meaning m ≡ layout_of Self.Registers.rules (values m) };
 
-    ghost lawful: { (m : Self) → armed m → Lawful (meaning m) };
+    ghost laws: { (m : Self) → armed m → Lawful (meaning m) };
 }

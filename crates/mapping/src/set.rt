@@ -45,7 +45,7 @@ impl<M: Mapping> RegisterSet<M> {
     pub fn arm(self) -> Result<ArmedSet<M>, (ArmingRefusal, RegisterSet<M>)>
         ensures answer { result_map_both (λ _. tt) (λ e. e.0) result ≡ check_arming M.Registers.rules (M.Registers.values self.registers) }
         ensures outcome { MatchResult result (λ a. M.armed a.mapping × (M.values a.mapping ≡ M.Registers.values self.registers)) (λ e. e.1.registers ≡ self.registers) }
-        ensures lawful { IfOk result (λ a. Lawful (M.meaning a.mapping)) }
+        ensures laws { IfOk result (λ a. Lawful (M.meaning a.mapping)) }
     {
         // Both answers are taken apart, so a match and not two closures.
         match M::arm(self.registers) {

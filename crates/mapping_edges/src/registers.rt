@@ -40,17 +40,17 @@ fn widths() -> Result<(), Fail> {
 
 #[test]
 fn types() -> Result<(), Fail> {
-    same(Direct::TYPE, 1)?;
-    same(Colour::TYPE, 2)?;
-    same(Stride::TYPE, 3)?;
-    same(Transpose::TYPE, 4)
+    same(Direct::TYPE_NUMBER, 1)?;
+    same(Colour::TYPE_NUMBER, 2)?;
+    same(Stride::TYPE_NUMBER, 3)?;
+    same(Transpose::TYPE_NUMBER, 4)
 }
 
 // What generic code reads of a mapping's type.
 fn type_number<M: Mapping>() -> u8
     ensures { result ≡ M.Registers.rules.type_number }
 {
-    M::TYPE
+    M::TYPE_NUMBER
 }
 
 #[test]

@@ -1,6 +1,12 @@
 -- States that calls lead to: none, one, one list after the other. Assumes nothing.
-use Rattle.std.proofs.Common.{List, [], ◌∷◌, ◌++◌, sym, refl, subst}
-use Rattle.memory.specs.Reach.{Call, Linked, Reached}
+use Rattle.std.proofs.Common.{ℕ, List, [], ◌∷◌, ◌++◌, sym, refl, subst}
+use Rattle.memory.specs.Reach.{Call, reading, writing, Linked, Reached, AllReads, OnlyRead}
+
+all_reads_append : (cs ds : List Call) → AllReads cs → AllReads ds → AllReads (cs ++ ds)
+unfolding AllReads
+all_reads_append [] ds first rest = rest
+all_reads_append (reading a b ∷ cs) ds first rest = all_reads_append cs ds first rest
+all_reads_append (writing a bs ∷ cs) ds first rest = first
 
 module _ {S : Type 0} (R : S → Call → S → Type 0) where
   pub linked_none : (s : S) → Linked R s [] s
@@ -24,6 +30,21 @@ module _ {S : Type 0} (R : S → Call → S → Type 0) where
 
   pub reached_more : {s t u : S} → Reached R s t → Reached R t u → Reached R s u
   reached_more {s} {t} {u} p q = record { calls = p.calls ++ q.calls; linked = linked_append s t u p.calls q.calls p.linked q.linked }
+
+  pub only_read_none : (s : S) → OnlyRead R s s
+  unfolding AllReads
+  only_read_none s = record { calls = []; linked = linked_none s; reads = tt }
+
+  pub only_read_one : {s t : S} (a : ℕ) (b : List ℕ) → R s (reading a b) t → OnlyRead R s t
+  unfolding AllReads
+  only_read_one {s} {t} a b r = record { calls = reading a b ∷ []; linked = linked_one s t (reading a b) r; reads = tt }
+
+  pub only_read_more : {s t u : S} → OnlyRead R s t → OnlyRead R t u → OnlyRead R s u
+  only_read_more {s} {t} {u} p q = record {
+    calls = p.calls ++ q.calls;
+    linked = linked_append s t u p.calls q.calls p.linked q.linked;
+    reads = all_reads_append p.calls q.calls p.reads q.reads;
+  }
 
   -- what each step carries over is carried over from end to end
   pub reached_keeps : (K : S → S → Type 0) → ((s : S) → K s s) → ((s t u : S) (c : Call) → R s c t → K t u → K s u) → (s t : S) → Reached R s t → K s t

@@ -6,7 +6,7 @@ use Rattle.memory.specs.Meaning.{Cell, fault, Meaning}
 use Rattle.memory.specs.Run.{check_run}
 use Rattle.memory.specs.Calls.{cell_answer, value, first_fault, read_answer, write_answer, bytes, delivered, stored, written}
 use Rattle.memory.specs.Relation.{Kept, Agree, Agreement}
-use Rattle.memory.proofs.Runs.{Taken, taken}
+use Rattle.memory.proofs.Runs.{Taken, run_taken}
 use Rattle.memory.proofs.Overlays.{Inside, cases_run}
 use Rattle.memory.proofs.Calls.{writes_as_reads}
 use Rattle.memory.proofs.Writes.{stored_inside, stored_outside, same_size, accepted_taken, accepted_each}
@@ -71,7 +71,7 @@ module _ (m n : Meaning) (agree : Agree m n) (a k : ℕ) where
 
   -- by what the test of the run answers
   reads_by : (r : Result (Unit {0}) Fault) → check_run m.size a k ≡ r → result_and r (first_fault m.cell a k) ≡ result_and r (first_fault n.cell a k)
-  reads_by (Ok u) e = faults_of_run m.cell n.cell a k (inside (taken m.size a k e))
+  reads_by (Ok u) e = faults_of_run m.cell n.cell a k (inside (run_taken m.size a k e))
   reads_by (Err f) e = refl
 
   pub agree_reads : read_answer m a k ≡ read_answer n a k
@@ -112,8 +112,8 @@ module _ (m n : Meaning) (agree : Agree m n) (a : ℕ) where
       subst (λ r. Agree (written m a bs) (cond (is_ok r) (stored n a bs) n)) (agree_writes m n agree a (length bs))
       (left_by bs (write_answer m a (length bs)))
 
-pub agreement : Agreement
-agreement = record {
+pub agreement_holds : Agreement
+agreement_holds = record {
   same = λ m. record { size = refl; cells = λ i low. refl };
   back = λ m n p. record { size = sym p.size; cells = λ i low. sym (p.cells i (subst (λ s. i < s) (sym p.size) low)) };
   more = λ m n o p q. record {

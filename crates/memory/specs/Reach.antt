@@ -1,6 +1,8 @@
 -- Calls as data, and the states that calls lead to. Assumes nothing.
 -- Linked R s cs t: the calls cs lead from the state s to the state t, each by the relation R
 -- Reached R s t: some calls do
+-- AllReads cs: every one of the calls cs is a read
+-- OnlyRead R s t: reads alone lead from s to t
 -- bytes_after f xs c: what the bytes xs are after the call c, where f says what they are after a write
 -- after_calls f x cs: what x becomes by the calls cs, one after the other, where f says what it becomes by one
 use Rattle.std.specs.Prelude.{◌≡◌, ℕ, List, [], ◌∷◌}
@@ -23,6 +25,16 @@ Linked {S} R s (c ∷ cs) t = (u : S) × R s c u × Linked R u cs t
 pub record Reached {S : Type 0} (R : S → Call → S → Type 0) (s t : S) : Type 0 where
   pub calls : List Call
   pub linked : Linked R s calls t
+
+unfoldable pub AllReads : List Call → Type 0
+AllReads [] = Unit {0}
+AllReads (reading a b ∷ cs) = AllReads cs
+AllReads (writing a bs ∷ cs) = ⊥
+
+pub record OnlyRead {S : Type 0} (R : S → Call → S → Type 0) (s t : S) : Type 0 where
+  pub calls : List Call
+  pub linked : Linked R s calls t
+  pub reads : AllReads calls
 
 unfoldable pub after_calls : {X : Type 0} → (X → Call → X) → X → List Call → X
 after_calls f x [] = x

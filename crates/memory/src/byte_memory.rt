@@ -18,24 +18,24 @@ pub trait LineFormat {
     // What the bytes are after a write at an address.
     ghost updated: { List ℕ → ℕ → List ℕ → List ℕ };
 
-    fn size(lent: &[u8]) -> u64
-        ensures { result ≡ (meaning lent.now).size };
+    fn size(borrowed: &[u8]) -> u64
+        ensures { result ≡ (meaning borrowed.now).size };
 
     // Where the cells of a run stand in the bytes, one after the other, or the refusal of the run.
-    fn find(lent: &[u8], a: u64, n: usize) -> Result<usize, Fault>
-        ensures answer { result_map_both (λ _. tt) (λ f. f) result ≡ read_answer (meaning lent.now) a n }
-        ensures cells { IfOk result (StandsAt (meaning lent.now) lent.now a n) };
+    fn find(borrowed: &[u8], a: u64, n: usize) -> Result<usize, Fault>
+        ensures answer { result_map_both (λ _. tt) (λ f. f) result ≡ read_answer (meaning borrowed.now) a n }
+        ensures cells { IfOk result (StandsAt (meaning borrowed.now) borrowed.now a n) };
 
-    fn write(lent: &mut [u8], a: u64, bytes: &[u8]) -> Result<(), Fault>
-        ensures answer { result ≡ write_answer (meaning lent.old) a (length bytes.now) }
-        ensures lent { lent.new ≡ updated lent.old a bytes.now }
-        ensures meaning { meaning lent.new ≡ written (meaning lent.old) a bytes.now }
-        ensures bytes { AllBytes lent.new };
+    fn write(borrowed: &mut [u8], a: u64, bytes: &[u8]) -> Result<(), Fault>
+        ensures answer { result ≡ write_answer (meaning borrowed.old) a (length bytes.now) }
+        ensures borrowed { borrowed.new ≡ updated borrowed.old a bytes.now }
+        ensures meaning { meaning borrowed.new ≡ written (meaning borrowed.old) a bytes.now }
+        ensures bytes { AllBytes borrowed.new };
 
     ghost formed: { (xs : List ℕ) → AllBytes xs → WellFormed (meaning xs) };
 }
 
-// The bytes are lent to the memory, and no other part of them is touched than the cells that a call names.
+// The bytes are borrowed, and a write changes of them just what the format's `updated` says.
 #[derive(Drop)]
 pub struct ByteMemory<'a, F: LineFormat> {
     bytes: &'a mut [u8],
@@ -53,7 +53,7 @@ impl<'a, F: LineFormat> ByteMemory<'a, F> {
         }
     }
 
-    // A read of the bytes, which it leaves as they are. Apart from `read`, since what is lent from behind a `&mut self` comes back unknown.
+    // A read of the bytes, which it leaves as they are. Apart from `read`, since what is borrowed from behind a `&mut self` comes back unknown.
     fn fetch(&self, a: u64, buffer: &mut [u8]) -> Result<(), Fault>
         ensures answer { result ≡ read_answer (F.meaning self.now.bytes.now) a (length buffer.old) }
         ensures buffer { buffer.new ≡ delivered (F.meaning self.now.bytes.now) a buffer.old }

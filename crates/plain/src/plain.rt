@@ -2,7 +2,7 @@
 ghost use Rattle.std.specs.Prelude.{◌≡◌, length, Ok};
 ghost use Rattle.memory.specs.Bytes.{AllBytes};
 ghost use Rattle.memory.specs.Calls.{read_answer, write_answer, written};
-ghost use Rattle.plain.specs.Plain.{holding, updated, well_formed};
+ghost use Rattle.plain.specs.Plain.{plain_meaning, updated, well_formed};
 
 use memory::{ByteMemory, Fault, LineFormat, capacity, check_run};
 use units::LINE;
@@ -13,35 +13,35 @@ pub struct CellsAlone;
 pub type Plain<'a> = ByteMemory<'a, CellsAlone>;
 
 impl LineFormat for CellsAlone {
-    ghost meaning = { holding };
+    ghost meaning = { plain_meaning };
 
     ghost updated = { updated };
 
     ghost formed = { well_formed };
 
-    fn size(lent: &[u8]) -> u64 {
-        capacity(lent.len() as u64 / LINE)
+    fn size(borrowed: &[u8]) -> u64 {
+        capacity(borrowed.len() as u64 / LINE)
     }
 
-    fn find(lent: &[u8], a: u64, n: usize) -> Result<usize, Fault> {
-        answer(lent, a, n)?;
+    fn find(borrowed: &[u8], a: u64, n: usize) -> Result<usize, Fault> {
+        answer(borrowed, a, n)?;
         Ok(cell_index(a))
     }
 
     // As in every format, and no more than the order of its own two calls.
-    fn write(lent: &mut [u8], a: u64, bytes: &[u8]) -> Result<(), Fault> {
-        answer(lent, a, bytes.len())?;
-        copy_in(lent, a, bytes);
+    fn write(borrowed: &mut [u8], a: u64, bytes: &[u8]) -> Result<(), Fault> {
+        answer(borrowed, a, bytes.len())?;
+        copy_in(borrowed, a, bytes);
         Ok(())
     }
 }
 
 // The answer to a run. No cell of a plain memory is a fault, so the test of the run is all of it.
-fn answer(lent: &[u8], a: u64, n: usize) -> Result<(), Fault>
-    ensures read { result ≡ read_answer (holding lent.now) a n }
-    ensures write { result ≡ write_answer (holding lent.now) a n }
+fn answer(borrowed: &[u8], a: u64, n: usize) -> Result<(), Fault>
+    ensures read { result ≡ read_answer (plain_meaning borrowed.now) a n }
+    ensures write { result ≡ write_answer (plain_meaning borrowed.now) a n }
 {
-    check_run(CellsAlone::size(lent), a, n)
+    check_run(CellsAlone::size(borrowed), a, n)
 }
 
 // Where the cell of this address stands in the borrowed bytes.
@@ -52,12 +52,12 @@ fn cell_index(a: u64) -> usize
 }
 
 // Puts the bytes into a run that is accepted.
-fn copy_in(lent: &mut [u8], a: u64, bytes: &[u8])
-    requires { write_answer (holding lent.old) a (length bytes.now) ≡ Ok tt }
-    ensures lent { lent.new ≡ updated lent.old a bytes.now }
-    ensures meaning { holding lent.new ≡ written (holding lent.old) a bytes.now }
-    ensures bytes { AllBytes lent.new }
+fn copy_in(borrowed: &mut [u8], a: u64, bytes: &[u8])
+    requires { write_answer (plain_meaning borrowed.old) a (length bytes.now) ≡ Ok tt }
+    ensures borrowed { borrowed.new ≡ updated borrowed.old a bytes.now }
+    ensures meaning { plain_meaning borrowed.new ≡ written (plain_meaning borrowed.old) a bytes.now }
+    ensures bytes { AllBytes borrowed.new }
 {
     let at = cell_index(a);
-    lent[at..at + bytes.len()].copy_from_slice(bytes);
+    borrowed[at..at + bytes.len()].copy_from_slice(bytes);
 }

@@ -104,6 +104,6 @@ pub ruleset ends = (prices_none, prices_some, before_none, lines_none)
 pub read_most : (k : ℕ) (line : List ℕ) (n : ℕ) → line_read k line ≡ Ok n → k ≤ 1024
 read_most k line n e = grind (arith, common_steps)
 
-pub told : (e : InputError) (p : Result (List ℕ) InputError) → p ≡ Err e → Told e p
-told NoMemory p is = tt
-told e p is = is
+pub is_told : (e : InputError) (p : Result (List ℕ) InputError) → p ≡ Err e → Told e p
+is_told NoMemory p is = tt
+is_told e p is = is

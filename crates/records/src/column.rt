@@ -1,6 +1,6 @@
 // The column of all prices: written as records, read back and added up.
 ghost use Rattle.std.specs.Prelude.{◌≡◌, ◌*◌, ◌^◌, ◌<◌, IfOk};
-ghost use Rattle.memory.specs.Reach.{Linked, Reached};
+ghost use Rattle.memory.specs.Reach.{Linked, Reached, OnlyRead};
 ghost use Rattle.memory.specs.Relation.{Kept};
 ghost use Rattle.records.specs.Column.{records_answer, records_written, record_writes, prices_read, total, readable};
 
@@ -10,7 +10,7 @@ use std::alloc::{AllocError, Global};
 use units::LINE;
 
 // A price as it was read, or the fault that the read was refused with.
-pub type Reading = Result<u32, Fault>;
+pub type PriceAnswer = Result<u32, Fault>;
 
 // Writes one record for each price, from address 0 on, up to the first that is refused.
 pub fn write_records<M: Memory>(memory: &mut M, prices: &[u32]) -> Result<(), Fault>
@@ -37,17 +37,17 @@ fn record_address(index: usize) -> u64
 }
 
 // Reads the prices of the first `count` records.
-#[tactic(auto, using(crate::proofs::Columns::prices_read_more, memory::proofs::Reaches::reached_none, memory::proofs::Reaches::reached_more), unfolding(crate::specs::Column::prices_read))]
+#[tactic(auto, using(crate::proofs::Columns::prices_read_more, memory::proofs::Reaches::only_read_none, memory::proofs::Reaches::only_read_more), unfolding(crate::specs::Column::prices_read))]
 pub fn read_prices<M: Memory>(
     heap: Global,
     memory: &mut M,
     count: u32,
-) -> Result<Vec<Reading>, AllocError>
+) -> Result<Vec<PriceAnswer>, AllocError>
     requires { M.coherent memory.old }
     ensures made { IfOk result (λ v. v.items ≡ prices_read (M.meaning memory.old) count) }
     ensures meaning { M.meaning memory.new ≡ M.meaning memory.old }
     ensures coherent { M.coherent memory.new }
-    ensures reached { Reached M.step memory.old memory.new }
+    ensures reads { OnlyRead M.step memory.old memory.new }
 {
     let mut readings = Vec::new(heap);
     // A loop: tried as a chain, and no proof says what the memory means after a closure that borrows it.
@@ -59,7 +59,7 @@ pub fn read_prices<M: Memory>(
 
 // The total of the column, or the first refusal in it.
 #[tactic(auto, unfolding(crate::specs::Column::total))]
-pub fn total(readings: &[Reading]) -> Result<u128, Fault>
+pub fn total(readings: &[PriceAnswer]) -> Result<u128, Fault>
     ensures { result ≡ total readings.now }
 {
     let mut sum = 0;
@@ -70,7 +70,7 @@ pub fn total(readings: &[Reading]) -> Result<u128, Fault>
 }
 
 // How many records brought a price.
-pub fn readable(readings: &[Reading]) -> usize
+pub fn readable(readings: &[PriceAnswer]) -> usize
     ensures { result ≡ readable readings.now }
 {
     readings.iter().filter(|reading| reading.is_ok()).count()

@@ -2,7 +2,7 @@
 ghost use Rattle.std.specs.Prelude.{◌≡◌, [], ◌∷◌};
 ghost use Rattle.units.specs.Word.{word_bytes};
 ghost use Rattle.memory.specs.Calls.{write_answer, written};
-ghost use Rattle.memory.specs.Reach.{writing, Linked, Reached};
+ghost use Rattle.memory.specs.Reach.{writing, Linked, Reached, OnlyRead};
 ghost use Rattle.memory.specs.Relation.{Kept};
 ghost use Rattle.records.specs.Record.{price_address, record_of, price_read};
 
@@ -35,7 +35,7 @@ pub fn read_price<M: Memory>(memory: &mut M, index: u32) -> Result<u32, Fault>
     ensures value { result ≡ price_read (M.meaning memory.old) index }
     ensures meaning { M.meaning memory.new ≡ M.meaning memory.old }
     ensures coherent { M.coherent memory.new }
-    ensures reached { Reached M.step memory.old memory.new }
+    ensures reads { OnlyRead M.step memory.old memory.new }
 {
     let mut bytes = [0; WORD];
     memory.read(price_address(index), &mut bytes)?;

@@ -8,7 +8,7 @@ use Rattle.mapping.proofs.Laws.{Tested, Addressed}
 use Rattle.mapping.proofs.Multiples.{times_multiple, multiple_trans, skip_multiple, quotient_below, rows_apart, split_apart, row_below}
 use Rattle.mapping.specs.Element.{is_element_size}
 use Rattle.stride.specs.Stride.{address, extent, condition, object_size, stride, object_offset, stride_rules}
-use Rattle.mapping.proofs.Elements.{Sized, sized}
+use Rattle.mapping.proofs.Elements.{Sized, is_sized}
 
 -- what the condition tells
 record Conditioned (B D F : ℕ) : Type 0 where
@@ -17,13 +17,13 @@ record Conditioned (B D F : ℕ) : Type 0 where
   room : F + B ≤ D
   line : F % 128 + B ≤ 128
 
-conditioned : (B D F : ℕ) → condition B D F ≡ true → Conditioned B D F
-conditioned B D F passed =
+is_conditioned : (B D F : ℕ) → condition B D F ≡ true → Conditioned B D F
+is_conditioned B D F passed =
     let a = and_parts (is_element_size B && not (D == 0) && divides 128 D && nat_le (F + B) D) (nat_le (F % 128 + B) 128) passed in
     let b = and_parts (is_element_size B && not (D == 0) && divides 128 D) (nat_le (F + B) D) a.0 in
     let c = and_parts (is_element_size B && not (D == 0)) (divides 128 D) b.0 in
     let d = and_parts (is_element_size B) (not (D == 0)) c.0 in
-    record { size = sized B d.0; lines = eqb-true (D % 128) 0 c.1; room = leb-true (F + B) D b.1; line = leb-true (F % 128 + B) 128 a.1 }
+    record { size = is_sized B d.0; lines = eqb-true (D % 128) 0 c.1; room = leb-true (F + B) D b.1; line = leb-true (F % 128 + B) 128 a.1 }
 
 module _ (B D F : ℕ) (c : Conditioned B D F) where
   rest : (s : ℕ) → F + s % B < D
@@ -54,12 +54,12 @@ module _ (B D F : ℕ) (c : Conditioned B D F) where
   line : (k : ℕ) → (k * D + F) % 128 + B ≤ 128
   line k = rw (skip_multiple (k * D) F 128 (times_multiple k D 128 c.lines)) c.line
 
-pub addressed : (rs : List ℕ) → Tested stride_rules rs → Addressed stride_rules rs
-addressed rs t =
+pub is_addressed : (rs : List ℕ) → Tested stride_rules rs → Addressed stride_rules rs
+is_addressed rs t =
     let B = object_size rs in
     let D = stride rs in
     let F = object_offset rs in
-    let c = conditioned B D F t.condition in
+    let c = is_conditioned B D F t.condition in
     let size = c.size in
     let whole = multiple_trans B 128 (image_size rs) size.fills t.image_lines in
     record {

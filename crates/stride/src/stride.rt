@@ -1,9 +1,9 @@
 // Stride: objects that stand one stride apart in the data, side by side in the image.
 ghost use Rattle.std.specs.Prelude.{◌≡◌, ◌<◌, refl};
 ghost use Rattle.mapping.specs.Registers.{Fits};
-ghost use Rattle.mapping.proofs.Laws.{lawful};
+ghost use Rattle.mapping.proofs.Laws.{is_lawful};
 ghost use Rattle.stride.specs.Stride.{stride_rules, values};
-ghost use Rattle.stride.specs.Laws.{addressed};
+ghost use Rattle.stride.specs.Laws.{is_addressed};
 
 use mapping::{
     Addressing, ArmedRegisters, CommonRegisters, PseudoVirtualAddress, Register, RegisterRecord,
@@ -84,14 +84,14 @@ impl RegisterRecord for StrideRegisters {
 }
 
 impl Addressing for StrideRegisters {
-    const TYPE: u8 = 3;
+    const TYPE_NUMBER: u8 = 3;
 
-    ghost TYPE = { 3 };
+    ghost TYPE_NUMBER = { 3 };
 
     ghost numbered = { refl };
 
-    // One form in each mapping, by the laws of its own rules; `lawful` has what all share.
-    ghost laws = { λ r armed. lawful stride_rules (values r) refl armed (addressed (values r)) };
+    // One form in each mapping, by the laws of its own rules; `is_lawful` has what all share.
+    ghost laws = { λ r armed. is_lawful stride_rules (values r) refl armed (is_addressed (values r)) };
 
     fn grain(&self) -> u64 {
         self.object_size.get()

@@ -1,17 +1,17 @@
 -- The transpose mapping keeps the laws. Assumes nothing.
 use Rattle.std.specs.Prelude.{◌≡◌, ℕ, ◌+◌, ◌*◌, ◌/◌, ◌%◌, ◌<◌, ◌≤◌, true, ◌&&◌, List, Some, nat_le, refl}
 use Rattle.std.proofs.Common.{sym, ap, ◌∙◌, mul_assoc, mul-div_cancel, add-mul, arith}
-use Rattle.std.proofs.Math.Nat.{div-div-eq-div-mul, mul-mod_left, mul-mod_right, mod-mod_of_dvd, dvd_of_mod-eq-zero, div-mul_cancel}
+use Rattle.std.proofs.Math.Nat.{div-div-eq-div-mul, mul-mod_left, mod-mod_of_dvd, dvd_of_mod-eq-zero, div-mul_cancel}
 use Rattle.std.proofs.lemmas.Nat.{div-mul-add, mod-mul-add, mod_below, mul-le}
 use Rattle.std.proofs.lemmas.Bool.{and_parts, leb-true, eqb-true}
 use Rattle.mapping.specs.Rules.{image_size, divides}
 use Rattle.mapping.proofs.Laws.{Tested, Addressed}
-use Rattle.mapping.proofs.Multiples.{times_multiple, multiple_trans, multiple_room, skip_multiple, quotient_below, rows_apart, split_apart, row_below}
+use Rattle.mapping.proofs.Multiples.{times_multiple, multiple_room, skip_multiple, quotient_below, rows_apart, split_apart, row_below}
 use Rattle.units.specs.Power.{is_power_of_two}
 use Rattle.units.proofs.Powers.{power_some}
 use Rattle.mapping.specs.Element.{is_element_size}
 use Rattle.transpose.specs.Transpose.{address, extent, condition, element_size, row_size, row_count, transpose_rules}
-use Rattle.mapping.proofs.Elements.{Sized, sized}
+use Rattle.mapping.proofs.Elements.{Sized, is_sized}
 
 -- what the condition tells
 record Conditioned (I B D N : ℕ) : Type 0 where
@@ -21,14 +21,14 @@ record Conditioned (I B D N : ℕ) : Type 0 where
   whole : I % (B * N) ≡ 0
   room : I / N ≤ D
 
-conditioned : (I B D N : ℕ) → condition I B D N ≡ true → Conditioned I B D N
-conditioned I B D N passed =
+is_conditioned : (I B D N : ℕ) → condition I B D N ≡ true → Conditioned I B D N
+is_conditioned I B D N passed =
     let a = and_parts (is_element_size B && is_power_of_two N && divides B D && divides (B * N) I) (nat_le (I / N) D) passed in
     let b = and_parts (is_element_size B && is_power_of_two N && divides B D) (divides (B * N) I) a.0 in
     let c = and_parts (is_element_size B && is_power_of_two N) (divides B D) b.0 in
     let d = and_parts (is_element_size B) (is_power_of_two N) c.0 in
     record {
-      size = sized B d.0;
+      size = is_sized B d.0;
       some = power_some N d.1;
       rows = eqb-true (D % B) 0 c.1;
       whole = eqb-true (I % (B * N)) 0 b.1;
@@ -36,10 +36,6 @@ conditioned I B D N passed =
     }
 
 module _ (I B D N : ℕ) (c : Conditioned I B D N) where
-  -- the image is a multiple of an element, and of a whole column
-  elements : I % B ≡ 0
-  elements = multiple_trans B (B * N) I (mul-mod_right B N) c.whole
-
   -- the part of a row that is shown is as many elements as there are columns
   columns : I / (B * N) * B ≡ I / N
   columns =
@@ -94,13 +90,13 @@ module _ (I B D N : ℕ) (c : Conditioned I B D N) where
       let inner : v % 128 % B ≡ 0 = mod-mod_of_dvd B v (dvd_of_mod-eq-zero B size.fills) ∙ even in
       multiple_room (v % 128) 128 B inner size.fills (mod_below v 128 (omega arith))
 
-pub addressed : (rs : List ℕ) → Tested transpose_rules rs → Addressed transpose_rules rs
-addressed rs t =
+pub is_addressed : (rs : List ℕ) → Tested transpose_rules rs → Addressed transpose_rules rs
+is_addressed rs t =
     let I = image_size rs in
     let B = element_size rs in
     let D = row_size rs in
     let N = row_count rs in
-    let c = conditioned I B D N t.condition in
+    let c = is_conditioned I B D N t.condition in
     record {
       grain_power = c.size.power;
       grain_least = c.size.least;

@@ -1,9 +1,9 @@
 // Transpose: a matrix that lies row by row in the data, column by column in the image.
 ghost use Rattle.std.specs.Prelude.{◌≡◌, ◌<◌, refl};
 ghost use Rattle.mapping.specs.Registers.{Fits};
-ghost use Rattle.mapping.proofs.Laws.{lawful};
+ghost use Rattle.mapping.proofs.Laws.{is_lawful};
 ghost use Rattle.transpose.specs.Transpose.{transpose_rules, values};
-ghost use Rattle.transpose.specs.Laws.{addressed};
+ghost use Rattle.transpose.specs.Laws.{is_addressed};
 
 use mapping::{
     Addressing, ArmedRegisters, CommonRegisters, PseudoVirtualAddress, Register, RegisterRecord,
@@ -84,14 +84,14 @@ impl RegisterRecord for TransposeRegisters {
 }
 
 impl Addressing for TransposeRegisters {
-    const TYPE: u8 = 4;
+    const TYPE_NUMBER: u8 = 4;
 
-    ghost TYPE = { 4 };
+    ghost TYPE_NUMBER = { 4 };
 
     ghost numbered = { refl };
 
-    // One form in each mapping, by the laws of its own rules; `lawful` has what all share.
-    ghost laws = { λ r armed. lawful transpose_rules (values r) refl armed (addressed (values r)) };
+    // One form in each mapping, by the laws of its own rules; `is_lawful` has what all share.
+    ghost laws = { λ r armed. is_lawful transpose_rules (values r) refl armed (is_addressed (values r)) };
 
     fn grain(&self) -> u64 {
         self.element_size.get()

@@ -4,22 +4,22 @@ use Rattle.std.proofs.lemmas.Result.{err_from_is_err_and}
 use Rattle.memory.specs.Run.{check_run}
 use Rattle.memory.specs.Calls.{read_answer}
 use Rattle.memory.proofs.Calls.{writes_as_reads}
-use Rattle.checked.specs.Checked.{guarding}
+use Rattle.checked.specs.Checked.{checked_meaning}
 use Rattle.checked.proofs.Guards.{refused, answered}
 use Rattle.checked.proofs.checked.answer.Goals as goal
 
 pub returns-in_err-check_run : goal.returns-in_err-check_run
 returns-in_err-check_run c =
-    let xs = c.args.lent.now in
+    let xs = c.args.borrowed.now in
     let p = err_from_is_err_and c.from_residual.result c.from_residual.ensures.1 in
     let tested = c.check_run.ensures ∙ ap (λ s. check_run s c.args.a c.args.n) c.size.ensures in
     let read = p.1 ∙ sym (refused xs c.args.a c.args.n p.0 (sym tested ∙ c.in_err-check_run.was ∙ ap Err (sym p.2))) in
-    record { read = read; write = read ∙ sym (writes_as_reads (guarding xs) c.args.a c.args.n) }
+    record { read = read; write = read ∙ sym (writes_as_reads (checked_meaning xs) c.args.a c.args.n) }
 
 pub returns : goal.returns
 returns c =
-    let xs = c.args.lent.now in
+    let xs = c.args.borrowed.now in
     let tested = c.check_run.ensures ∙ ap (λ s. check_run s c.args.a c.args.n) c.size.ensures in
-    let read : c.line_answer.result ≡ read_answer (guarding xs) c.args.a c.args.n =
+    let read : c.line_answer.result ≡ read_answer (checked_meaning xs) c.args.a c.args.n =
     c.line_answer.ensures ∙ answered xs c.args.a c.args.n (sym tested ∙ c.in_ok-check_run.was) in
-    record { read = read; write = read ∙ sym (writes_as_reads (guarding xs) c.args.a c.args.n) }
+    record { read = read; write = read ∙ sym (writes_as_reads (checked_meaning xs) c.args.a c.args.n) }

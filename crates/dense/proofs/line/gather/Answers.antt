@@ -1,13 +1,13 @@
 -- Assumes nothing.
 use Rattle.std.proofs.Common.{◌≡◌, Ok, refl, sym, ◌∙◌, arith}
-use Rattle.memory.proofs.Reaches.{reached_none, reached_more}
+use Rattle.memory.proofs.Reaches.{only_read_none, only_read_more}
 use Rattle.dense.specs.Dense.{piece}
 use Rattle.dense.proofs.Gathers.{read_piece, gathering_none, gathering_more, gathering_all}
 use Rattle.dense.proofs.Grains.{dense}
 use Rattle.dense.proofs.line.gather.Goals as goal
 
 pub loop-at-init : goal.loop-at-init
-loop-at-init g c = (gathering_none _ _ _ refl, refl, c.requires.coherent, reached_none g.M.Memory.step _)
+loop-at-init g c = (gathering_none _ _ _ refl, refl, c.requires.coherent, only_read_none g.M.Memory.step _)
 
 pub loop-at-preserved : goal.loop-at-preserved
 loop-at-preserved g c =
@@ -19,7 +19,7 @@ loop-at-preserved g c =
       gathering_more c.loop-at.invariant.0 c.loop-at-test.true _ _ _ read c.copy_from_slice.ensures.after (omega arith),
       c.gather_price.ensures.meaning ∙ same,
       c.gather_price.ensures.coherent,
-      reached_more g.M.Memory.step c.loop-at.invariant.3 c.gather_price.ensures.reached,
+      only_read_more g.M.Memory.step c.loop-at.invariant.3 c.gather_price.ensures.reads,
     )
 
 pub returns : goal.returns
@@ -28,8 +28,8 @@ returns g c =
     let whole = gathering_all c.loop-at.invariant.0 c.loop-at-test.false in
     record {
       value = sym whole;
-      dense = dense l (g.met.P.Mapping.lawful c.args.mapping.now c.requires.armed) (g.M.Memory.meaning c.args.memory.now) c.loop-at.line whole;
+      dense = dense l (g.met.P.Mapping.laws c.args.mapping.now c.requires.armed) (g.M.Memory.meaning c.args.memory.now) c.loop-at.line whole;
       meaning = c.loop-at.invariant.1;
       coherent = c.loop-at.invariant.2;
-      reached = c.loop-at.invariant.3;
+      reads = c.loop-at.invariant.3;
     }

@@ -1,5 +1,5 @@
 use Rattle.std.proofs.Common.{◌≡◌}
-use Rattle.memory.specs.Reach.{Reached}
+use Rattle.memory.specs.Reach.{OnlyRead}
 use Rattle.dense.proofs.Gathers.{Gathering}
 use Rattle.dense.proofs.line.gather.Given as goal
 
@@ -10,4 +10,4 @@ invariant-loop-at g l =
     Gathering (g.P.Mapping.meaning l.mapping) (m.meaning l.initial.memory) l.line l.at
     × (m.meaning l.memory ≡ m.meaning l.initial.memory)
     × m.coherent l.memory
-    × Reached m.step l.initial.memory l.memory
+    × OnlyRead m.step l.initial.memory l.memory

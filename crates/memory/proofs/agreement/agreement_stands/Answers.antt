@@ -1,6 +1,6 @@
 -- Assumes nothing.
-use Rattle.memory.proofs.Relations.{agreement}
+use Rattle.memory.proofs.Relations.{agreement_holds}
 use Rattle.memory.proofs.agreement.agreement_stands.Goals as goal
 
 pub returns : goal.returns
-returns c = agreement
+returns c = agreement_holds

@@ -6,7 +6,7 @@ use Rattle.plain.proofs.plain.answer.Goals as goal
 
 pub returns : goal.returns
 returns c =
-    let xs = c.args.lent.now in
+    let xs = c.args.borrowed.now in
     let a = c.args.a in
     let n = c.args.n in
     let tested = c.check_run.ensures ∙ ap (λ s. check_run s a n) c.size.ensures in

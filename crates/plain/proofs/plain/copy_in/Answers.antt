@@ -3,21 +3,21 @@ use Rattle.std.proofs.Common.{◌≡◌, ◌+◌, ◌-◌, length, ap, ◌∙◌
 use borrow.Rule.Slice.PartMut.{put_mid}
 use Rattle.memory.specs.Bytes.{overlaid}
 use Rattle.memory.proofs.Overlays.{overlaid_part}
-use Rattle.plain.specs.Plain.{holding}
+use Rattle.plain.specs.Plain.{plain_meaning}
 use Rattle.plain.proofs.Plains.{write_inside, write_bytes, write_meaning}
 use Rattle.plain.proofs.plain.copy_in.Goals as goal
 
 pub overflow_add-at : goal.overflow_add-at
 overflow_add-at c =
-    record { fits = omega (arith, c.cell_index-at.ensures, write_inside c.args.lent.now c.args.a (length c.args.bytes.now) c.requires) }
+    record { fits = omega (arith, c.cell_index-at.ensures, write_inside c.args.borrowed.now c.args.a (length c.args.bytes.now) c.requires) }
 
 pub slice_bounds-copy_from_slice-end : goal.slice_bounds-copy_from_slice-end
 slice_bounds-copy_from_slice-end c =
-    omega (arith, c.cell_index-at.ensures, write_inside c.args.lent.now c.args.a (length c.args.bytes.now) c.requires)
+    omega (arith, c.cell_index-at.ensures, write_inside c.args.borrowed.now c.args.a (length c.args.bytes.now) c.requires)
 
 pub returns : goal.returns
 returns c =
-    let xs = c.args.lent.now in
+    let xs = c.args.borrowed.now in
     let a = c.args.a in
     let bs = c.args.bytes.now in
     let at = c.cell_index-at.result in
@@ -25,4 +25,4 @@ returns c =
     ap (put_mid at (at + length bs - at) xs) c.copy_from_slice.ensures.after
     ∙ overlaid_part xs bs at _ (omega arith)
     ∙ ap (λ k. overlaid xs k bs) c.cell_index-at.ensures in
-    record { lent = laid ∙ write_bytes xs a bs c.requires; meaning = ap holding laid ∙ write_meaning xs a bs c.requires; bytes = search rules }
+    record { borrowed = laid ∙ write_bytes xs a bs c.requires; meaning = ap plain_meaning laid ∙ write_meaning xs a bs c.requires; bytes = search rules }

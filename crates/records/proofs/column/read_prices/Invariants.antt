@@ -1,5 +1,5 @@
 use Rattle.std.proofs.Common.{◌≡◌, vec_items}
-use Rattle.memory.specs.Reach.{Reached}
+use Rattle.memory.specs.Reach.{OnlyRead}
 use Rattle.records.specs.Column.{prices_read}
 use Rattle.records.proofs.column.read_prices.Given as goal
 
@@ -10,4 +10,4 @@ invariant-loop-index g l =
     (vec_items l.readings ≡ prices_read (m.meaning l.initial.memory) l.index)
     × (m.meaning l.memory ≡ m.meaning l.initial.memory)
     × m.coherent l.memory
-    × Reached m.step l.initial.memory l.memory
+    × OnlyRead m.step l.initial.memory l.memory

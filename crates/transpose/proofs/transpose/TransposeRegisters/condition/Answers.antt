@@ -1,13 +1,13 @@
 -- Both factors passed their tests. Assumes nothing.
 use Rattle.std.proofs.Common.{◌≡◌, ℕ, ◌*◌, ◌<◌, true, mul-pos, arith, rules}
 use Rattle.mapping.specs.Element.{is_element_size}
-use Rattle.mapping.proofs.Elements.{sized}
+use Rattle.mapping.proofs.Elements.{is_sized}
 use Rattle.units.proofs.Powers.{power_some}
 use Rattle.transpose.proofs.transpose.TransposeRegisters.condition.Goals as goal
 use Rattle.transpose.proofs.transpose.TransposeRegisters.condition.Goals.{then-is_element_size, else-is_element_size, then-is_power_of_two, else-is_power_of_two}
 
 some_bytes : (B : ℕ) → is_element_size B ≡ true → 0 < B
-some_bytes B whole = let size = sized B whole in omega arith
+some_bytes B whole = let size = is_sized B whole in omega arith
 
 pub nonzero_rem-image_size : goal.nonzero_rem-image_size
 nonzero_rem-image_size c =
