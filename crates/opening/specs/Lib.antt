@@ -1,0 +1,3 @@
+pub mod Reason
+pub mod Opening
+pub mod Board

@@ -1,0 +1,4 @@
+pub mod Entry
+pub mod Table
+pub mod Walk
+pub mod Class
