@@ -2,3 +2,4 @@ pub mod Entry
 pub mod Table
 pub mod Walk
 pub mod Class
+pub mod Tlb
