@@ -13,7 +13,7 @@ pub seen_none : (t : Table) (m : Meaning) (n : ℕ) (board : List ℕ) → board
 unfolding taken
 seen_none t m n board clear long = record {
   long = omega (arith, ap length clear, length-replicate {A = ℕ} n 0);
-  shown = λ f low. ap (λ b. get_or b f 0) clear ∙ get_or-replicate n f 0 0 (omega arith);
+  frames = λ f low. ap (λ b. get_or b f 0) clear ∙ get_or-replicate n f 0 0 (omega arith);
 }
 
 pub length_noted : (board : List ℕ) (f : Option ℕ) → length (noted board f) ≡ length board
@@ -30,7 +30,7 @@ module _ (t : Table) (m : Meaning) (k : ℕ) (board : List ℕ) (seen : Seen t m
   on_board None = refl
   on_board (Some f) =
       ⊎_elim
-      (λ low. ap (check_frame t (whole_pages m) f) (shown_taken (taken t m k f) (get_or board f 0) (seen.shown f low)))
+      (λ low. ap (check_frame t (whole_pages m) f) (shown_taken (taken t m k f) (get_or board f 0) (seen.frames f low)))
       (λ high. rw (le-leb (whole_pages m) f high) refl)
       (cases_lt f (whole_pages m))
 
@@ -43,7 +43,7 @@ module _ (t : Table) (m : Meaning) (k : ℕ) (board : List ℕ) (seen : Seen t m
   more_taken f g e = ap (λ o. has_frame g o || taken t m k g) e
 
   noted_shown : (f : Option ℕ) → check_live t m k f ≡ Ok tt → (g : ℕ) → g < whole_pages m → get_or (noted board f) g 0 ≡ cond (has_frame g f || taken t m k g) 1 0
-  noted_shown None ok g low = seen.shown g low
+  noted_shown None ok g low = seen.frames g low
   noted_shown (Some f) ok g low =
       let a = frame_accepted t (whole_pages m) f (taken t m k f) ok in
       let long = seen.long in
@@ -55,7 +55,7 @@ module _ (t : Table) (m : Meaning) (k : ℕ) (board : List ℕ) (seen : Seen t m
       ∙ sym (cond-true _ 1 0 (or_left (eqb f g) (taken t m k g) (eq-eqb f g (sym same)))))
       (λ other.
       get_or-set_other board f g 1 0 other
-      ∙ seen.shown g low
+      ∙ seen.frames g low
       ∙ ap (λ b. cond (b || taken t m k g) 1 0) (sym (ne_eqb f g (λ e. other (sym e)))))
       (cases_eq g f)
 
@@ -64,7 +64,7 @@ module _ (t : Table) (m : Meaning) (k : ℕ) (board : List ℕ) (seen : Seen t m
       let next : suc k ≡ k + 1 = omega arith in
       record {
         long = subst (λ n. whole_pages m ≤ n) (sym (length_noted board f)) seen.long;
-        shown = λ g low.
+        frames = λ g low.
             noted_shown f (sym (on_board f) ∙ ok) g low
             ∙ ap (λ b. cond b 1 0) (sym (more_taken f g e) ∙ ap (λ j. taken t m j g) next);
       }

@@ -22,7 +22,7 @@ noted board (Some f) = slice_set board f 1
 
 pub record Seen (t : Table) (m : Meaning) (k : ℕ) (board : List ℕ) : Type 0 where
   pub long : whole_pages m ≤ length board
-  pub shown : (f : ℕ) → f < whole_pages m → slice_index board f ≡ cond (taken t m k f) 1 0
+  pub frames : (f : ℕ) → f < whole_pages m → slice_index board f ≡ cond (taken t m k f) 1 0
 
 abbrev pub line_at : Meaning → ℕ → Option (List ℕ)
 line_at m a = cond (is_ok (read_answer m a 128)) (Some (bytes m.cell a 128)) None

@@ -1,9 +1,11 @@
 -- Which openings are refused, and why. Assumes nothing.
 -- in_table t p: whether the page p is one of the table t
+-- has_frame f o: whether the frame o of an entry, if it is live, is f
 -- taken t m k f: whether a live entry before entry k has the frame f
 -- check_frame t p f before: acceptance of the live frame f, or why it is refused, by the table t and p whole pages, where it is said
 -- whether an earlier live entry has it
--- check_entry t m k: acceptance of entry k, or why it is refused; an entry that is not live is accepted
+-- check_live t m k f: acceptance of entry k by its frame f, if it is live, or why it is refused; one that is not live is accepted
+-- check_entry t m k: the same by what the memory m holds
 -- refused_by k r: the answer r, with the number of the entry that decided it
 -- check_entries t m k n: acceptance of the n entries from k on, or the refusal of the first one that is not accepted
 -- table_outside t m: whether from the table's first page on there are fewer whole pages than it takes

@@ -52,22 +52,22 @@ fn check_table<M: Memory>(
     ensures coherent { M.Memory.coherent below.new }
     ensures reads { OnlyRead M.Memory.step below.old below.new }
 {
-    let pages = below.size() / PAGE;
-    check_sizes(table, pages, board.len() as u64).map_err(|reason| OpeningRefusal {
+    let whole = below.size() / PAGE;
+    check_sizes(table, whole, board.len() as u64).map_err(|reason| OpeningRefusal {
         reason,
         entry: 0,
     })?;
-    check_entries(table, pages, below, board)
+    check_entries(table, whole, below, board)
 }
 
-// What is tested before any entry is looked at.
-fn check_sizes(table: Table, pages: u64, board: u64) -> Result<(), Reason>
-    ensures { result ≡ check_sizes table pages board }
+// What is tested before any entry is looked at: the board has so many bytes, and the memory so many whole pages.
+fn check_sizes(table: Table, whole: u64, bytes: u64) -> Result<(), Reason>
+    ensures { result ≡ check_sizes table whole bytes }
 {
-    if board < pages {
+    if bytes < whole {
         return Err(Reason::ShortBoard);
     }
-    if pages.saturating_sub(u64::from(table.page())) < u64::from(table.pages()) {
+    if whole.saturating_sub(u64::from(table.page())) < u64::from(table.pages()) {
         return Err(Reason::TableOutside);
     }
     Ok(())
@@ -76,13 +76,13 @@ fn check_sizes(table: Table, pages: u64, board: u64) -> Result<(), Reason>
 // The entries in their order, up to the first that is refused.
 fn check_entries<M: Memory>(
     table: Table,
-    pages: u64,
+    whole: u64,
     below: &mut M,
     board: &mut [u8],
 ) -> Result<(), OpeningRefusal>
     requires coherent { M.Memory.coherent below.old }
-    requires pages { pages ≡ whole_pages (M.Memory.meaning below.old) }
-    requires table { table_pages table ≤ pages - table.page }
+    requires whole { whole ≡ whole_pages (M.Memory.meaning below.old) }
+    requires table { table_pages table ≤ whole - table.page }
     requires seen { Seen table (M.Memory.meaning below.old) 0 board.old }
     ensures answer { result ≡ check_entries table (M.Memory.meaning below.old) 0 table.entries }
     ensures board { length board.new ≡ length board.old }
@@ -99,7 +99,7 @@ fn check_entries<M: Memory>(
                 break 'table;
             }
             let frame = entry_frame(table, below, &line, entry);
-            if let Err(reason) = check_frame(table, pages, frame, board) {
+            if let Err(reason) = check_frame(table, whole, frame, board) {
                 answer = Err(OpeningRefusal { reason, entry });
                 break 'table;
             }
@@ -121,8 +121,8 @@ fn read_line<M: Memory>(below: &mut M, a: MemoryAddress) -> Option<[u8; 128]>
     Some(line)
 }
 
-#[tactic(auto, using(crate::proofs::Lines::lone_frame, crate::proofs::Lines::lined_frame, memory::proofs::Reaches::only_read_none))]
 // The frame of an entry, if that is live. Where its line was not read whole, other entries of the line may be live, so it is read alone.
+#[tactic(auto, using(crate::proofs::Lines::lone_frame, crate::proofs::Lines::lined_frame, memory::proofs::Reaches::only_read_none))]
 fn entry_frame<M: Memory>(
     table: Table,
     below: &mut M,
@@ -165,15 +165,15 @@ fn line_entry(line: &[u8; 128], slot: usize) -> Entry
 }
 
 // Whether an entry is accepted, by its frame if it is live, which is then noted on the board.
-fn check_frame(table: Table, pages: u64, frame: Option<u32>, board: &mut [u8]) -> Result<(), Reason>
-    requires { pages ≤ length board.old }
-    ensures answer { result ≡ check_on_board table pages board.old frame }
+fn check_frame(table: Table, whole: u64, frame: Option<u32>, board: &mut [u8]) -> Result<(), Reason>
+    requires { whole ≤ length board.old }
+    ensures answer { result ≡ check_on_board table whole board.old frame }
     ensures board { board.new ≡ cond (is_ok result) (noted board.old frame) board.old }
 {
     let Some(frame) = frame else {
         return Ok(());
     };
-    if u64::from(frame) >= pages {
+    if u64::from(frame) >= whole {
         return Err(Reason::FrameOutside);
     }
     if in_table(table, frame) {

@@ -10,7 +10,8 @@
 -- frame_in r: the frame of an entry that was read, if it is live
 -- frame_of t m k: the frame of entry k, if that is live
 -- Live t m k f: entry k is one of the table, and live, and f is its frame
--- GoodTable t m: the table lies below the whole pages; live frames too, outside the table, and no two are equal
+-- GoodTable t m: the pages of the table are whole pages of the memory; so are live frames, which are none of the table, and no two
+-- are equal
 use Rattle.std.specs.Prelude.{◌≡◌, ℕ, ◌+◌, ◌*◌, ◌/◌, ◌<◌, ◌≤◌, cond, Some, None, Ok, Err, Option, Result}
 use Rattle.std.specs.Result.{result_map_both}
 use Rattle.memory.specs.declared.fault.Fault.{Fault}

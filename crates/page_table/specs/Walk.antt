@@ -1,7 +1,9 @@
 -- What a cell of a window is: the walk from a window address through the mapping and the page table. Assumes nothing.
 -- through s v r: where the pseudo-virtual address v of the window address s stands, by the entry r of its page
--- walked l m s: the address below where cell s stands, or the fault that is met on the way
+-- walked_from t m s place: the address below where cell s stands, by its place and the table t, or the fault that is met on the way
+-- walked l m s: the same by the layout l
 -- cell_up c: the cell c as the layer above has it
+-- cell_behind m r: the cell of a window that stands where the walk r led, or its fault
 -- viewed l m s: the cell s of an open window over the memory m
 -- windowed l m: the meaning of that window
 -- shut: the meaning of a shut window

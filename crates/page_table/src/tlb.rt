@@ -18,8 +18,9 @@ struct Translation {
 #[derive(Clone, Copy)]
 pub struct Tlb {
     places: [Option<Translation>; PLACES],
+    // grains that were looked for, whose entry was held or not
     lookups: u64,
-    // lookups that read a live entry, which was then held
+    // lookups of a live entry that was not held, and was from then on
     fills: u64,
 }
 

@@ -1,2 +1,3 @@
 pub mod RunExamples
 pub mod MappingExamples
+pub mod EntryExamples

@@ -1,4 +1,4 @@
-// Worked examples of runs and of mappings.
+// Worked examples of runs, of mappings and of page table entries.
 #![tactic(auto)]
 
 mod examples;

@@ -7,7 +7,7 @@ pub struct WindowReport {
     pub type_number: u8,
     // why the window is shut, 0 if it is open
     pub reason: u8,
-    // the entry of the page table that decided, 0 if none did
+    // the number of the entry that decided the reason, 0 if none did
     pub entry: u32,
     pub lookups: u64,
     pub fills: u64,

@@ -10,10 +10,10 @@ ghost use Rattle.window.specs.Report.{reported};
 use crate::report::WindowReport;
 use mapping::{ArmedSet, Mapping};
 use memory::Memory;
-use opening::{OpeningRefusal, Reason, check_opening};
+use opening::{OpeningRefusal, check_opening};
 use page_table::Tlb;
 
-// A window is open or shut from its opening on. What it holds are plain numbers, so that windows stack over borrowed bytes.
+// A window is open or shut from its opening on. It has no ghost field, so that windows stack over borrowed bytes.
 #[derive(Drop)]
 pub struct Window<P: Mapping, M: Memory> {
     mapping: P,
@@ -54,14 +54,16 @@ impl<P: Mapping, M: Memory> Window<P, M> {
     pub fn close(self) -> M
         ensures { result ≡ self.below }
     {
-        self.below
+        let Window { below, .. } = self;
+        below
     }
 
     // Acceptance if it is open, or why it is shut.
     pub fn opening(&self) -> Result<(), OpeningRefusal>
         ensures { result ≡ self.now.opening }
     {
-        self.opening
+        let Window { opening, .. } = self;
+        *opening
     }
 
     // The size of the image; 0 if it is shut.
@@ -79,13 +81,11 @@ impl<P: Mapping, M: Memory> Window<P, M> {
     pub fn report(&self) -> WindowReport
         ensures { result ≡ reported P.Mapping.TYPE_NUMBER self.now.opening self.now.tlb }
     {
+        let refusal = self.opening.err();
         WindowReport {
             type_number: P::TYPE_NUMBER,
-            reason: self
-                .opening
-                .err()
-                .map_or(0, |refusal| refusal.reason.number()),
-            entry: self.opening.err().map_or(0, |refusal| refusal.entry),
+            reason: refusal.map_or(0, |refusal| refusal.reason.number()),
+            entry: refusal.map_or(0, |refusal| refusal.entry),
             lookups: self.tlb.lookups(),
             fills: self.tlb.fills(),
         }

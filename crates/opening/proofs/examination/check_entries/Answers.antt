@@ -39,7 +39,7 @@ loop-slot-preserved g c =
     let next : k + 1 ≡ c.table.number * 32 + (c.loop-slot.slot + 1) = omega arith in
     let frame = c.entry_frame-frame.ensures.frame in
     let accepted = not_refused c.check_frame.result c.in_default.not-Err in
-    let said = examined_answer i.0 _ c.args.pages _ i.2 c.requires.pages frame in
+    let said = examined_answer i.0 _ c.args.whole _ i.2 c.requires.whole frame in
     let board : c.check_frame.new.board ≡ noted c.loop-slot.board c.entry_frame-frame.result =
     c.check_frame.ensures.board ∙ ap (λ r. cond (is_ok r) (noted c.loop-slot.board c.entry_frame-frame.result) c.loop-slot.board) accepted in
     let more = examined_more i.0 c.entry_frame-frame.result (omega (arith, c.if-entry-entries.false)) (frame ∙ ap (λ n. frame_of t n k) i.2) (sym said ∙ sym c.check_frame.ensures.answer ∙ accepted) in (
@@ -54,7 +54,7 @@ loop-slot-preserved g c =
 pub returns-in-Err-clause-answer : goal.returns-in-Err-clause-answer
 returns-in-Err-clause-answer g c =
     let i = c.loop-slot.invariant in
-    let said = examined_answer i.0 _ c.args.pages _ i.2 c.requires.pages c.entry_frame-frame.ensures.frame in
+    let said = examined_answer i.0 _ c.args.whole _ i.2 c.requires.whole c.entry_frame-frame.ensures.frame in
     examined_refused i.0 c.in-Err.reason (omega (arith, c.if-entry-entries.false)) (sym said ∙ sym c.check_frame.ensures.answer ∙ c.in-Err.is)
 
 pub returns-in-Err-clause-reads : goal.returns-in-Err-clause-reads
