@@ -1,5 +1,5 @@
 -- Answers taken apart: what accepts a frame, an entry and several entries. Assumes nothing.
-use Rattle.std.proofs.Common.{◌≡◌, ℕ, zero, suc, ◌+◌, ◌-◌, ◌<◌, ◌≤◌, Bool, true, false, cond, leb, ltb, Ok, Err, Result, sym, refl, ap, ◌∙◌, ⊎_elim, arith}
+use Rattle.std.proofs.Common.{◌≡◌, ℕ, zero, suc, ◌+◌, ◌-◌, ◌<◌, ◌≤◌, Bool, true, false, cond, leb, ltb, is_err, Ok, Err, Result, sym, refl, ap, ◌∙◌, ⊎_elim, arith}
 use Rattle.std.specs.Result.{result_and}
 use Rattle.std.proofs.lemmas.Bool.{leb-true, leb-false, ltb-true, le-leb, lt-leb, lt-ltb, and_from, and_parts, cases_eq, false_from_ne_true, false≢true}
 use Rattle.memory.specs.Meaning.{Meaning}
@@ -50,6 +50,15 @@ pub both_accept : (k : ℕ) (r : Result (Unit {0}) Reason) (later : Result (Unit
 both_accept k (Ok u) later e = (refl, e)
 both_accept k (Err reason) later e = absurd cc
 
+first_decides : (r later : Result (Unit {0}) OpeningRefusal) → is_err r ≡ true → result_and r later ≡ r
+first_decides (Ok u) later bad = absurd (false≢true bad)
+first_decides (Err f) later bad = refl
+
+-- an answer that is no refusal
+pub not_refused : (k : ℕ) (r : Result (Unit {0}) Reason) → is_err (refused_by k r) ≡ false → r ≡ Ok tt
+not_refused k (Ok u) good = refl
+not_refused k (Err reason) good = absurd (false≢true (sym good))
+
 module _ (t : Table) (m : Meaning) where
   pub entries_accepted : (k n : ℕ) → check_entries t m k n ≡ Ok tt → (i : ℕ) → k ≤ i → i < k + n → check_entry t m i ≡ Ok tt
   unfolding check_entries
@@ -79,8 +88,8 @@ module _ (t : Table) (m : Meaning) where
       ∙ ap (λ r. result_and (refused_by k r) (check_entries t m (suc k) (n - suc k))) ok
       ∙ ap (λ j. check_entries t m j (n - j)) (omega arith)
 
-  pub entry_refused : (k n : ℕ) (reason : Reason) → k < n → check_entry t m k ≡ Err reason → check_entries t m k (n - k) ≡ Err (record { reason = reason; entry = k })
-  entry_refused k n reason low e = step k n low ∙ ap (λ r. result_and (refused_by k r) (check_entries t m (suc k) (n - suc k))) e
+  pub entry_decides : (k n : ℕ) → k < n → is_err (refused_by k (check_entry t m k)) ≡ true → refused_by k (check_entry t m k) ≡ check_entries t m k (n - k)
+  entry_decides k n low bad = sym (step k n low ∙ first_decides (refused_by k (check_entry t m k)) (check_entries t m (suc k) (n - suc k)) bad)
 
   pub entries_done : (k n : ℕ) → n ≤ k → check_entries t m k (n - k) ≡ Ok tt
   unfolding check_entries

@@ -1,13 +1,12 @@
 -- The examination of a table, entry by entry. Assumes nothing.
-use Rattle.std.proofs.Common.{◌≡◌, ℕ, ◌+◌, ◌-◌, ◌<◌, ◌≤◌, List, Ok, Err, Option, Result, sym, refl, ap, ◌∙◌, arith}
+use Rattle.std.proofs.Common.{subst, true, false, is_err, ◌≡◌, ℕ, ◌+◌, ◌-◌, ◌<◌, ◌≤◌, List, Ok, Option, Result, sym, refl, ap, ◌∙◌, arith}
 use Rattle.memory.specs.Meaning.{Meaning}
 use Rattle.page_table.specs.declared.table.Table.{Table}
 use Rattle.page_table.specs.Table.{whole_pages, frame_of}
-use Rattle.opening.specs.declared.reason.Reason.{Reason}
 use Rattle.opening.specs.declared.reason.OpeningRefusal.{OpeningRefusal}
-use Rattle.opening.specs.Opening.{check_entry, check_entries}
+use Rattle.opening.specs.Opening.{refused_by, check_entry, check_entries}
 use Rattle.opening.specs.Board.{check_on_board, noted, Seen}
-use Rattle.opening.proofs.Answers.{entry_accepted, entry_refused, entries_done}
+use Rattle.opening.proofs.Answers.{not_refused, entry_accepted, entry_decides, entries_done}
 use Rattle.opening.proofs.Boards.{board_answer, seen_more}
 
 -- all entries before k are accepted, and the answer is that of the rest
@@ -17,6 +16,9 @@ pub record Examined (t : Table) (m : Meaning) (k : ℕ) (board : List ℕ) (answ
   pub seen : Seen t m k board
 
 module _ {t : Table} {m : Meaning} {k : ℕ} {board : List ℕ} {answer : Result (Unit {0}) OpeningRefusal} (x : Examined t m k board answer) where
+  pub examined_at : (j : ℕ) → k ≡ j → Examined t m j board answer
+  examined_at j same = subst (λ i. Examined t m i board answer) same x
+
   pub examined_all : t.entries ≤ k → answer ≡ check_entries t m 0 t.entries
   examined_all past = x.passed ∙ sym (x.whole ∙ entries_done t m k t.entries past)
 
@@ -25,20 +27,20 @@ module _ {t : Table} {m : Meaning} {k : ℕ} {board : List ℕ} {answer : Result
   examined_answer n p f same pages is =
       ap (λ q. check_on_board t q board f) pages ∙ board_answer t m k board x.seen f (sym (is ∙ ap (λ o. frame_of t o k) same))
 
-  pub examined_refused : (reason : Reason) → k < t.entries → check_entry t m k ≡ Err reason → Err (record { reason = reason; entry = k }) ≡ check_entries t m 0 t.entries
-  examined_refused reason low e = sym (x.whole ∙ entry_refused t m k t.entries reason low e)
+  -- an entry that is refused decides the answer
+  pub examined_refused : (r : Result (Unit {0}) OpeningRefusal) → k < t.entries → r ≡ refused_by k (check_entry t m k) → is_err r ≡ true → r ≡ check_entries t m 0 t.entries
+  examined_refused r low is bad =
+      is ∙ entry_decides t m k t.entries low (ap is_err (sym is) ∙ bad) ∙ sym x.whole
 
-  pub examined_more : (f : Option ℕ) → k < t.entries → f ≡ frame_of t m k → check_entry t m k ≡ Ok tt → Examined t m (k + 1) (noted board f) answer
-  examined_more f low is ok = record {
-    passed = x.passed;
-    whole = x.whole ∙ entry_accepted t m k t.entries low ok;
-    seen = seen_more t m k board x.seen f (sym is) (board_answer t m k board x.seen f (sym is) ∙ ok);
-  }
-
--- an answer that is no refusal
-pub not_refused : (r : Result (Unit {0}) Reason) → ((reason : Reason) → r ≡ Err reason → ⊥) → r ≡ Ok tt
-not_refused (Ok u) never = refl
-not_refused (Err reason) never = absurd (never reason refl)
+  -- and one that is accepted leaves it to those that follow
+  pub examined_more : (r : Result (Unit {0}) OpeningRefusal) (f : Option ℕ) → k < t.entries → f ≡ frame_of t m k → r ≡ refused_by k (check_entry t m k) → is_err r ≡ false → Examined t m (k + 1) (noted board f) r
+  examined_more r f low frame is good =
+      let ok = not_refused k (check_entry t m k) (ap is_err (sym is) ∙ good) in
+      record {
+        passed = is ∙ ap (refused_by k) ok;
+        whole = x.whole ∙ entry_accepted t m k t.entries low ok;
+        seen = seen_more t m k board x.seen f (sym frame) (board_answer t m k board x.seen f (sym frame) ∙ ok);
+      }
 
 pub examined_none : {t : Table} {m : Meaning} {board : List ℕ} → Seen t m 0 board → Examined t m 0 board (Ok tt)
 examined_none {t} {m} seen = record { passed = refl; whole = ap (check_entries t m 0) (omega arith); seen = seen }

@@ -1,10 +1,10 @@
 // Goes through a page table before a window opens.
-ghost use Rattle.std.specs.Prelude.{◌≡◌, ◌+◌, ◌*◌, ◌/◌, ◌<◌, ◌≤◌, cond, is_ok, length, replicate, take, drop, Decides, ◌-◌};
+ghost use Rattle.std.specs.Prelude.{◌≡◌, ◌+◌, ◌*◌, ◌/◌, ◌<◌, ◌≤◌, cond, is_ok, length, min, replicate, take, drop, Decides, ◌-◌};
 ghost use Rattle.std.specs.Result.{result_map_both};
 ghost use Rattle.memory.specs.Reach.{OnlyRead};
 ghost use Rattle.page_table.specs.Entry.{entry_of};
 ghost use Rattle.page_table.specs.Table.{table_of, table_pages, whole_pages, entry_address, entry_answer, frame_in, frame_of};
-ghost use Rattle.opening.specs.Opening.{check_sizes, check_entries, check_opening, in_table, Openable};
+ghost use Rattle.opening.specs.Opening.{refused_by, check_sizes, check_entries, check_opening, in_table, Openable};
 ghost use Rattle.opening.specs.Board.{check_on_board, noted, Seen, line_at};
 
 use crate::reason::{OpeningRefusal, Reason};
@@ -31,13 +31,25 @@ pub fn check_opening<P: Mapping, M: Memory>(
     ensures coherent { M.Memory.coherent below.new }
     ensures reads { OnlyRead M.Memory.step below.old below.new }
 {
+    examine(Table::of(mapping), below, board)
+}
+
+// Clears the board before the table is looked at and after, whatever the answer is.
+fn examine<M: Memory>(table: Table, below: &mut M, board: &mut [u8]) -> Result<(), OpeningRefusal>
+    requires { M.Memory.coherent below.old }
+    ensures answer { result ≡ check_opening table (M.Memory.meaning below.old) (length board.old) }
+    ensures board { board.new ≡ replicate (length board.old) 0 }
+    ensures meaning { M.Memory.meaning below.new ≡ M.Memory.meaning below.old }
+    ensures coherent { M.Memory.coherent below.new }
+    ensures reads { OnlyRead M.Memory.step below.old below.new }
+{
     board.fill(0);
-    let answer = check_table(Table::of(mapping), below, board);
+    let answer = check_table(table, below, board);
     board.fill(0);
     answer
 }
 
-// The same over a board of zeros, in which it leaves its notes.
+// Over a board of zeros, in which it leaves its notes: first what is tested before any entry, and then the entries.
 #[tactic(auto, using(crate::proofs::Tables::opening_refused, crate::proofs::Tables::opening_by_entries, crate::proofs::Tables::seen_first, memory::proofs::Reaches::only_read_none))]
 fn check_table<M: Memory>(
     table: Table,
@@ -53,10 +65,7 @@ fn check_table<M: Memory>(
     ensures reads { OnlyRead M.Memory.step below.old below.new }
 {
     let whole = below.size() / PAGE;
-    check_sizes(table, whole, board.len() as u64).map_err(|reason| OpeningRefusal {
-        reason,
-        entry: 0,
-    })?;
+    refused_by(0, check_sizes(table, whole, board.len() as u64))?;
     check_entries(table, whole, below, board)
 }
 
@@ -92,20 +101,32 @@ fn check_entries<M: Memory>(
 {
     let mut answer = Ok(());
     'table: for number in 0..table.entries().div_ceil(LINE_ENTRIES) {
-        let line = read_line(below, table.entry_address(number * LINE_ENTRIES));
-        for slot in 0..LINE_ENTRIES {
-            let entry = number * LINE_ENTRIES + slot;
-            if entry >= table.entries() {
-                break 'table;
-            }
+        let first = number * LINE_ENTRIES;
+        let line = read_line(below, table.entry_address(first));
+        for entry in first..line_end(table, number) {
             let frame = entry_frame(table, below, &line, entry);
-            if let Err(reason) = check_frame(table, whole, frame, board) {
-                answer = Err(OpeningRefusal { reason, entry });
+            answer = refused_by(entry, check_frame(table, whole, frame, board));
+            if answer.is_err() {
                 break 'table;
             }
         }
     }
     answer
+}
+
+// The number after that of the last entry in this line of the table, whose last line may have fewer than 32.
+fn line_end(table: Table, number: u32) -> u32
+    ensures { result ≡ min ((number + 1) * 32) table.entries }
+{
+    let after = number.saturating_add(1).saturating_mul(LINE_ENTRIES);
+    after.min(table.entries())
+}
+
+// An answer with the number of the entry that decided it.
+fn refused_by(entry: u32, answer: Result<(), Reason>) -> Result<(), OpeningRefusal>
+    ensures { result ≡ refused_by entry answer }
+{
+    answer.map_err(|reason| OpeningRefusal { reason, entry })
 }
 
 // A line of the table; nothing where it is not read whole.

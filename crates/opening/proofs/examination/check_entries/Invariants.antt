@@ -1,4 +1,4 @@
-use Rattle.std.proofs.Common.{◌≡◌, ◌+◌, ◌*◌, length}
+use Rattle.std.proofs.Common.{◌≡◌, ◌*◌, min, length}
 use Rattle.memory.specs.Reach.{OnlyRead}
 use Rattle.page_table.specs.Table.{entry_address}
 use Rattle.opening.specs.Board.{line_at}
@@ -10,18 +10,18 @@ abbrev pub invariant-table : goal.invariant-table
 invariant-table g l =
     let m = g.M.Memory in
     let b = m.meaning l.fn.below in
-    Examined l.table b (l.number * 32) l.board l.answer
+    Examined l.table b (min (l.number * 32) l.table.entries) l.board l.answer
     × (length l.board ≡ length l.fn.board)
     × (m.meaning l.below ≡ b)
     × m.coherent l.below
     × OnlyRead m.step l.fn.below l.below
 
--- And so are those of this line before the slot.
-abbrev pub invariant-loop-slot : goal.invariant-loop-slot
-invariant-loop-slot g l =
+-- And so are those of this line before the one that is next.
+abbrev pub invariant-loop-entry : goal.invariant-loop-entry
+invariant-loop-entry g l =
     let m = g.M.Memory in
     let b = m.meaning l.fn.below in
-    Examined l.table b (l.number * 32 + l.slot) l.board l.answer
+    Examined l.table b l.entry l.board l.answer
     × (length l.board ≡ length l.fn.board)
     × (m.meaning l.below ≡ b)
     × m.coherent l.below
