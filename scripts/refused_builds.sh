@@ -1,6 +1,6 @@
 #!/bin/sh
-# Shows that a build refuses programs that misuse register sets and addresses, and mappings of others that break a rule which all
-# mappings keep; and that it accepts a program and a mapping of the same shape, and the example of README.md.
+# Shows that a build refuses programs that misuse register sets, windows and addresses, and mappings of others that break a rule which
+# all mappings keep; and that it accepts a program and a mapping of the same shape, and the example of README.md.
 # They are put together in a temporary folder, beside a copy of the libraries that they use, and checked there.
 set -u
 cd "$(dirname "$0")/.." || exit 2
@@ -9,7 +9,7 @@ trap 'rm -rf "$work"' EXIT
 failed=0
 
 mkdir "$work/crates"
-for crate in units memory plain records mapping stride dense; do
+for crate in units memory plain records mapping stride page_table opening window dense; do
     cp -R crates/$crate "$work/crates/"
 done
 cat >"$work/crates.txt" <<'LIST'
@@ -19,6 +19,9 @@ plain: units memory
 records: units memory
 mapping: units
 stride: units mapping
+page_table: units memory mapping
+opening: units memory mapping page_table
+window: memory mapping page_table opening
 dense: units memory mapping
 LIST
 
@@ -30,16 +33,19 @@ crate() {
     echo "$1: $2" >>"$work/crates.txt"
 }
 
-# program NAME MIDDLE: a crate that writes a set and arms it, with MIDDLE between arming and reading a place
+# program NAME MIDDLE: a crate that writes a set and arms it, with MIDDLE between arming and a size or a place
 program() {
-    crate "$1" 'mapping stride'
+    crate "$1" 'memory plain mapping stride page_table window'
     cat >"$work/crates/$1/src/lib.rt" <<PROGRAM
 #![tactic(auto)]
 
 use mapping::{Mapping, MemoryAddress, RegisterSet, WindowAddress};
+use page_table::read_entry;
+use plain::Plain;
 use stride::Stride;
+use window::Window;
 
-pub fn program() -> u64 {
+pub fn program(bytes: &mut [u8], board: &mut [u8]) -> u64 {
     let mut set = RegisterSet::<Stride>::new();
     let _ = set.write(0, 128);
     let answer = set.arm();
@@ -98,9 +104,15 @@ refused() {
 
 program used '
     match answer {
+        Ok(armed) => Window::open(armed, Plain::new(bytes), board).size(),
+        Err(_) => 0,
+    }'
+program placed '
+    match answer {
         Ok(armed) => {
             let mapping = armed.into_mapping();
             let _ = mapping.place(WindowAddress(4));
+            let _ = read_entry(&mut Plain::new(bytes), MemoryAddress(4));
             mapping.image_size()
         }
         Err(_) => 0,
@@ -108,22 +120,25 @@ program used '
 program written '
     let _ = set.write(1, 5);
     match answer {
-        Ok(armed) => armed.into_mapping().image_size(),
+        Ok(armed) => Window::open(armed, Plain::new(bytes), board).size(),
         Err(_) => 0,
     }'
 program twice '
     match answer {
         Ok(armed) => {
-            let first = armed.into_mapping();
-            let second = armed.into_mapping();
-            first.image_size() / 2 + second.image_size() / 2
+            let memory = Window::open(armed, Plain::new(bytes), board).close();
+            Window::open(armed, memory, board).size()
         }
         Err(_) => 0,
     }'
 program unarmed '
-    let other = RegisterSet::<Stride>::new();
     let _ = answer;
-    other.into_mapping().image_size()'
+    Window::open(RegisterSet::<Stride>::new(), Plain::new(bytes), board).size()'
+program bare '
+    match answer {
+        Ok(armed) => Window::open(armed.into_mapping(), Plain::new(bytes), board).size(),
+        Err(_) => 0,
+    }'
 program address '
     match answer {
         Ok(armed) => {
@@ -133,6 +148,10 @@ program address '
         }
         Err(_) => 0,
     }'
+program entry '
+    let _ = answer;
+    let _ = read_entry(&mut Plain::new(bytes), WindowAddress(4));
+    0'
 
 example example
 
@@ -140,13 +159,16 @@ mapping third ''
 mapping wide 's/widths = 32/widths = 40/'
 mapping colours 's/TYPE_NUMBER: u8 = 200/TYPE_NUMBER: u8 = 2/; s/TYPE_NUMBER = { 200 }/TYPE_NUMBER = { 2 }/'
 
-accepted used 'a set that is written, armed and used once'
+accepted used 'a window opened from an armed set'
+accepted placed 'a place and an entry, asked by the addresses that are due'
 accepted third 'a mapping of another crate'
 accepted example 'the example of README.md'
 refused written 'borrow-e0382' 'a register written after arming'
 refused twice 'borrow-e0382' 'an armed set used twice'
-refused unarmed 'unknown-method' 'a mapping taken from an unarmed set'
+refused unarmed 'mismatched-types' 'a window opened from an unarmed set'
+refused bare 'mismatched-types' 'a window opened from a mapping without its set'
 refused address 'mismatched-types' 'a memory address where a window address is due'
+refused entry 'mismatched-types' 'a window address where a memory address is due'
 refused wide 'error: `shared-value`' 'a mapping with an image size of 40 bits'
 refused colours 'error: `numbered-value`' 'a mapping whose type constant is not the type number of its rules'
 exit $failed
