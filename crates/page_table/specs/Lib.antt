@@ -3,3 +3,4 @@ pub mod Table
 pub mod Walk
 pub mod Class
 pub mod Tlb
+pub mod Ready

@@ -1,11 +1,14 @@
 // The TLB: the translations that a window holds, and its counts.
 ghost use Rattle.std.specs.Prelude.{◌≡◌, ℕ, None};
-ghost use Rattle.page_table.specs.Tlb.{empty_tlb, held_entry};
+ghost use Rattle.page_table.specs.Tlb.{empty_tlb, held_entry, kept, counted, Steady};
 
 use crate::entry::Entry;
 
 // Places of the TLB: page k stands only in place k mod 32.
 const PLACES: usize = 32;
+
+// The lookup that reaches this number is the last that counts: 2^48.
+const MOST_LOOKUPS: u64 = 281_474_976_710_656;
 
 // A page and its entry.
 #[derive(Clone, Copy)]
@@ -30,6 +33,7 @@ impl Tlb {
     pub fn new() -> Tlb
         ensures value { result ≡ empty_tlb }
         ensures nothing { (page : ℕ) → held_entry result page ≡ None }
+        ensures steady { Steady result }
     {
         Tlb {
             places: [None; PLACES],
@@ -46,6 +50,25 @@ impl Tlb {
         match place {
             Some(held) if held.page == page => Some(held.entry),
             _ => None,
+        }
+    }
+
+    // Holds an entry for a page, in place of what stood in its place.
+    pub fn keep(&mut self, page: u32, entry: Entry)
+        ensures { self.new ≡ kept self.old page entry }
+    {
+        self.places[page as usize % PLACES] = Some(Translation { page, entry });
+    }
+
+    // One lookup more, which was a fill or not.
+    pub fn count(&mut self, filled: bool)
+        requires { Steady self.old }
+        ensures value { self.new ≡ counted self.old filled }
+        ensures steady { Steady self.new }
+    {
+        if self.lookups < MOST_LOOKUPS {
+            self.lookups += 1;
+            self.fills += u64::from(filled);
         }
     }
 
