@@ -1,0 +1,3 @@
+pub mod Lookups
+pub mod Walks
+pub mod Marking

@@ -1,0 +1,9 @@
+// The walk from a window address to the memory below, by the TLB, and the marks of a page.
+#![tactic(auto)]
+
+mod lookup;
+mod marks;
+mod spot;
+
+pub use marks::{Access, mark};
+pub use spot::{Spot, walk};
