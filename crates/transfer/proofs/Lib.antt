@@ -1,0 +1,13 @@
+pub mod Grains
+pub mod Stepping
+pub mod Looking
+pub mod Gathering
+pub mod Alikes
+pub mod Markings
+pub mod Storing
+pub mod Scattering
+pub mod Callings
+pub mod Reading
+pub mod Touching
+pub mod Effects
+pub mod Counting

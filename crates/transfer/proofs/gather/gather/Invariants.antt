@@ -1,0 +1,21 @@
+use Rattle.std.proofs.Common.{◌≡◌, ◌-◌, length}
+use Rattle.memory.specs.Reach.{OnlyRead}
+use Rattle.page_table.specs.Ready.{Ready}
+use Rattle.transfer.proofs.Gathering.{Gathered}
+use Rattle.transfer.proofs.gather.gather.Given as goal
+
+-- The bytes that are left.
+abbrev pub decreases-loop-done : goal.decreases-loop-done
+decreases-loop-done g l = length l.line - l.done
+
+-- The parts so far are read and noted, by a memory that means what it meant.
+abbrev pub invariant-loop-done : goal.invariant-loop-done
+invariant-loop-done g l =
+    let m = g.M.Memory in
+    let layout = g.P.Mapping.meaning l.fn.mapping in
+    let b = m.meaning l.fn.below in
+    Gathered layout b l.fn.tlb l.fn.a.0 (length l.fn.line) l.done l.tlb l.line l.count l.spots
+    × (m.meaning l.below ≡ b)
+    × m.coherent l.below
+    × OnlyRead m.step l.fn.below l.below
+    × Ready layout b l.tlb

@@ -1,0 +1,5 @@
+pub mod Parts
+pub mod Lookups
+pub mod Scatter
+pub mod Call
+pub mod Effect

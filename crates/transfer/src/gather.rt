@@ -1,0 +1,115 @@
+// Gathering: the bytes of a run, part by part, and where each part stands.
+ghost use Rattle.std.specs.Prelude.{◌≡◌, ◌+◌, ◌-◌, ◌*◌, ◌%◌, ◌<◌, ◌≤◌, min, cond, is_ok, length, map, take, Ok, IfOk};
+ghost use Rattle.std.specs.Result.{result_map_both};
+ghost use Rattle.memory.specs.Calls.{first_fault, bytes, read_answer, delivered};
+ghost use Rattle.memory.specs.Fault.{from_below};
+ghost use Rattle.memory.specs.Reach.{OnlyRead};
+ghost use Rattle.page_table.specs.Walk.{walked, viewed};
+ghost use Rattle.page_table.specs.Ready.{Ready};
+ghost use Rattle.walk.specs.Lookup.{looked_at, page_at};
+ghost use Rattle.transfer.specs.Parts.{Part, Spotted};
+ghost use Rattle.transfer.specs.Lookups.{lookups_of};
+ghost use Rattle.transfer.specs.Scatter.{LivePages};
+ghost use Rattle.page_table.specs.Table.{table_of};
+
+use mapping::{Mapping, MemoryAddress, WindowAddress};
+use memory::{Fault, Memory, from_below};
+use page_table::Tlb;
+use walk::{Spot, walk};
+
+// The most parts that a run has: a grain has 4 bytes at least, and a run lies in one line.
+pub(crate) const PARTS: usize = 32;
+
+// Reads a run into a line and notes where its parts stand, up to the first refusal. Answers how many parts it has.
+pub(crate) fn gather<P: Mapping, M: Memory>(
+    mapping: &P,
+    below: &mut M,
+    tlb: &mut Tlb,
+    a: WindowAddress,
+    line: &mut [u8],
+    spots: &mut [Spot],
+) -> Result<usize, Fault>
+    requires armed { P.Mapping.armed mapping.now }
+    requires coherent { M.Memory.coherent below.old }
+    requires ready { Ready (P.Mapping.meaning mapping.now) (M.Memory.meaning below.old) tlb.old }
+    requires line { a.0 % 128 + length line.old ≤ 128 }
+    requires inside { a.0 + length line.old ≤ (P.Mapping.meaning mapping.now).image_size }
+    requires room { length spots.old ≡ 32 }
+    ensures answer { result_map_both (λ _. tt) (λ f. f) result ≡ first_fault (viewed (P.Mapping.meaning mapping.now) (M.Memory.meaning below.old)) a.0 (length line.old) }
+    ensures line { IfOk result (λ _. line.new ≡ bytes (viewed (P.Mapping.meaning mapping.now) (M.Memory.meaning below.old)) a.0 (length line.old)) }
+    ensures count { IfOk result (λ count. count ≤ 32) }
+    ensures spots { IfOk result (λ count. Spotted (P.Mapping.meaning mapping.now) (M.Memory.meaning below.old) a.0 (length line.old) (take count spots.new)) }
+    ensures live { IfOk result (λ count. LivePages (table_of (P.Mapping.meaning mapping.now)) (M.Memory.meaning below.old) (map (λ spot. spot.page) (take count spots.new))) }
+    ensures tlb { tlb.new ≡ lookups_of (P.Mapping.meaning mapping.now) (M.Memory.meaning below.old) a.0 (length line.old) tlb.old }
+    ensures meaning { M.Memory.meaning below.new ≡ M.Memory.meaning below.old }
+    ensures coherent { M.Memory.coherent below.new }
+    ensures reads { OnlyRead M.Memory.step below.old below.new }
+    ensures ready { Ready (P.Mapping.meaning mapping.now) (M.Memory.meaning below.new) tlb.new }
+{
+    let grain = mapping.grain();
+    let mut count = 0;
+    let mut done = 0;
+    while done < line.len() {
+        let s = a.0 + done as u64;
+        let step = part_size(s, grain, line.len() - done);
+        let spot = gather_part(
+            mapping,
+            below,
+            tlb,
+            WindowAddress(s),
+            &mut line[done..done + step],
+        )?;
+        spots[count] = spot;
+        count += 1;
+        done += step;
+    }
+    Ok(count)
+}
+
+// How many of n bytes from s on lie in the grain of s.
+pub(crate) fn part_size(s: u64, grain: u64, n: usize) -> usize
+    requires { (0 < grain) × (grain ≤ 128) }
+    ensures { result ≡ min (grain - s % grain) n }
+{
+    ((grain - s % grain) as usize).min(n)
+}
+
+// Reads a part of one grain, and answers where it stands.
+#[tactic(auto, using(crate::proofs::Grains::part_fails, crate::proofs::Grains::part_is, memory::proofs::Reaches::only_read_more))]
+fn gather_part<P: Mapping, M: Memory>(
+    mapping: &P,
+    below: &mut M,
+    tlb: &mut Tlb,
+    s: WindowAddress,
+    buffer: &mut [u8],
+) -> Result<Spot, Fault>
+    requires armed { P.Mapping.armed mapping.now }
+    requires coherent { M.Memory.coherent below.old }
+    requires ready { Ready (P.Mapping.meaning mapping.now) (M.Memory.meaning below.old) tlb.old }
+    requires part { Part (P.Mapping.meaning mapping.now) s.0 (length buffer.old) }
+    ensures answer { result_map_both (λ _. tt) (λ f. f) result ≡ first_fault (viewed (P.Mapping.meaning mapping.now) (M.Memory.meaning below.old)) s.0 (length buffer.old) }
+    ensures buffer { buffer.new ≡ cond (is_ok result) (bytes (viewed (P.Mapping.meaning mapping.now) (M.Memory.meaning below.old)) s.0 (length buffer.old)) buffer.old }
+    ensures page { IfOk result (λ spot. spot.page ≡ page_at (P.Mapping.meaning mapping.now) s.0) }
+    ensures place { IfOk result (λ spot. walked (P.Mapping.meaning mapping.now) (M.Memory.meaning below.old) s.0 ≡ Ok spot.address.0) }
+    ensures tlb { tlb.new ≡ looked_at (P.Mapping.meaning mapping.now) (M.Memory.meaning below.old) tlb.old s.0 }
+    ensures meaning { M.Memory.meaning below.new ≡ M.Memory.meaning below.old }
+    ensures coherent { M.Memory.coherent below.new }
+    ensures reads { OnlyRead M.Memory.step below.old below.new }
+    ensures ready { Ready (P.Mapping.meaning mapping.now) (M.Memory.meaning below.new) tlb.new }
+{
+    let spot = walk(mapping, below, tlb, s)?;
+    read_below(below, spot.address, buffer)?;
+    Ok(spot)
+}
+
+// A read of the memory below, whose fault is passed up.
+fn read_below<M: Memory>(below: &mut M, p: MemoryAddress, buffer: &mut [u8]) -> Result<(), Fault>
+    requires { M.Memory.coherent below.old }
+    ensures answer { result ≡ from_below (read_answer (M.Memory.meaning below.old) p.0 (length buffer.old)) }
+    ensures buffer { buffer.new ≡ delivered (M.Memory.meaning below.old) p.0 buffer.old }
+    ensures meaning { M.Memory.meaning below.new ≡ M.Memory.meaning below.old }
+    ensures coherent { M.Memory.coherent below.new }
+    ensures reads { OnlyRead M.Memory.step below.old below.new }
+{
+    from_below(below.read(p.0, buffer))
+}

@@ -1,0 +1,78 @@
+// What an accepted run leaves: the marks of its pages, and its bytes where its parts stand.
+ghost use Rattle.std.specs.Prelude.{◌≡◌, ℕ, ◌+◌, ◌≤◌, length, map, Ok};
+ghost use Rattle.memory.specs.Calls.{first_fault, written};
+ghost use Rattle.memory.specs.Reach.{writing, Reached};
+ghost use Rattle.page_table.specs.Table.{table_of, GoodTable};
+ghost use Rattle.page_table.specs.Walk.{walked, viewed, windowed};
+ghost use Rattle.page_table.specs.Ready.{Ready};
+ghost use Rattle.transfer.specs.Parts.{Spotted};
+ghost use Rattle.transfer.specs.Scatter.{LivePages, marked_pages, refreshed_pages, ScatteredAll};
+
+use crate::gather::part_size;
+use mapping::{Mapping, MemoryAddress, WindowAddress};
+use memory::Memory;
+use page_table::{Table, Tlb};
+use walk::{Access, Spot, mark};
+
+// Sets the marks of the pages in which the parts stand.
+pub(crate) fn mark_pages<P: Mapping, M: Memory>(
+    mapping: &P,
+    below: &mut M,
+    tlb: &mut Tlb,
+    spots: &[Spot],
+    access: Access,
+)
+    requires armed { P.Mapping.armed mapping.now }
+    requires coherent { M.Memory.coherent below.old }
+    requires ready { Ready (P.Mapping.meaning mapping.now) (M.Memory.meaning below.old) tlb.old }
+    requires live { LivePages (table_of (P.Mapping.meaning mapping.now)) (M.Memory.meaning below.old) (map (λ spot. spot.page) spots.now) }
+    ensures below { M.Memory.meaning below.new ≡ marked_pages (table_of (P.Mapping.meaning mapping.now)) access (map (λ spot. spot.page) spots.now) (M.Memory.meaning below.old) }
+    ensures tlb { tlb.new ≡ refreshed_pages access (map (λ spot. spot.page) spots.now) tlb.old }
+    ensures walks { (s : ℕ) → walked (P.Mapping.meaning mapping.now) (M.Memory.meaning below.new) s ≡ walked (P.Mapping.meaning mapping.now) (M.Memory.meaning below.old) s }
+    ensures window { windowed (P.Mapping.meaning mapping.now) (M.Memory.meaning below.new) ≡ windowed (P.Mapping.meaning mapping.now) (M.Memory.meaning below.old) }
+    ensures coherent { M.Memory.coherent below.new }
+    ensures reached { Reached M.Memory.step below.old below.new }
+    ensures ready { Ready (P.Mapping.meaning mapping.now) (M.Memory.meaning below.new) tlb.new }
+{
+    let table = Table::of(mapping);
+    for spot in spots {
+        mark(below, tlb, table, spot.page, access);
+    }
+}
+
+// Writes the bytes of a run where its parts stand.
+pub(crate) fn scatter<P: Mapping, M: Memory>(
+    mapping: &P,
+    below: &mut M,
+    a: WindowAddress,
+    bytes: &[u8],
+    spots: &[Spot],
+)
+    requires armed { P.Mapping.armed mapping.now }
+    requires coherent { M.Memory.coherent below.old }
+    requires table { GoodTable (table_of (P.Mapping.meaning mapping.now)) (M.Memory.meaning below.old) }
+    requires inside { a.0 + length bytes.now ≤ (P.Mapping.meaning mapping.now).image_size }
+    requires accepted { first_fault (viewed (P.Mapping.meaning mapping.now) (M.Memory.meaning below.old)) a.0 (length bytes.now) ≡ Ok tt }
+    requires spots { Spotted (P.Mapping.meaning mapping.now) (M.Memory.meaning below.old) a.0 (length bytes.now) spots.now }
+    ensures all { ScatteredAll (P.Mapping.meaning mapping.now) (M.Memory.meaning below.old) a.0 bytes.now (M.Memory.meaning below.new) }
+    ensures coherent { M.Memory.coherent below.new }
+    ensures reached { Reached M.Memory.step below.old below.new }
+{
+    let grain = mapping.grain();
+    let mut done = 0;
+    for spot in spots {
+        let step = part_size(a.0 + done as u64, grain, bytes.len() - done);
+        write_below(below, spot.address, &bytes[done..done + step]);
+        done += step;
+    }
+}
+
+// A write of the memory below that is known to be accepted.
+fn write_below<M: Memory>(below: &mut M, p: MemoryAddress, bytes: &[u8])
+    requires { M.Memory.coherent below.old }
+    ensures below { M.Memory.meaning below.new ≡ written (M.Memory.meaning below.old) p.0 bytes.now }
+    ensures coherent { M.Memory.coherent below.new }
+    ensures step { M.Memory.step below.old (writing p.0 bytes.now) below.new }
+{
+    let _ = below.write(p.0, bytes);
+}
