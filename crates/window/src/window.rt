@@ -1,17 +1,20 @@
 // A window: made by an opening, and closed again.
 ghost use Rattle.std.specs.Prelude.{◌≡◌, true, is_ok, length, replicate, Decides};
-ghost use Rattle.memory.specs.Reach.{OnlyRead};
+ghost use Rattle.memory.specs.Reach.{OnlyRead, Reached};
 ghost use Rattle.page_table.specs.Table.{table_of, GoodTable};
 ghost use Rattle.page_table.specs.Tlb.{empty_tlb};
 ghost use Rattle.page_table.specs.Walk.{shown};
 ghost use Rattle.opening.specs.Opening.{check_opening, Openable};
 ghost use Rattle.window.specs.Report.{reported};
+ghost use Rattle.window.specs.State.{Standing, Called};
+ghost use Rattle.window.specs.Laws.{shown_formed};
 
 use crate::report::WindowReport;
-use mapping::{ArmedSet, Mapping};
-use memory::Memory;
+use mapping::{ArmedSet, Mapping, WindowAddress};
+use memory::{Fault, Memory, check_run};
 use opening::{OpeningRefusal, check_opening};
 use page_table::Tlb;
+use transfer::{read_run, write_run};
 
 // A window is open or shut from its opening on. It has no ghost field, so that windows stack over borrowed bytes.
 #[derive(Drop)]
@@ -38,6 +41,7 @@ impl<P: Mapping, M: Memory> Window<P, M> {
         ensures coherent { M.Memory.coherent result.below }
         ensures reads { OnlyRead M.Memory.step below result.below }
         ensures table { is_ok result.opening ≡ true → GoodTable (table_of (P.Mapping.meaning result.mapping)) (M.Memory.meaning result.below) }
+        ensures standing { Standing (P.Mapping.armed result.mapping) (M.Memory.coherent result.below) (is_ok result.opening) (P.Mapping.meaning result.mapping) (M.Memory.meaning result.below) result.tlb }
     {
         let mapping = set.into_mapping();
         let mut below = below;
@@ -66,18 +70,6 @@ impl<P: Mapping, M: Memory> Window<P, M> {
         *opening
     }
 
-    // The size of the image; 0 if it is shut.
-    pub fn size(&self) -> u64
-        requires { P.Mapping.armed self.now.mapping }
-        ensures { result ≡ (shown (is_ok self.now.opening) (P.Mapping.meaning self.now.mapping) (M.Memory.meaning self.now.below)).size }
-    {
-        if self.opening.is_ok() {
-            self.mapping.image_size()
-        } else {
-            0
-        }
-    }
-
     pub fn report(&self) -> WindowReport
         ensures { result ≡ reported P.Mapping.TYPE_NUMBER self.now.opening self.now.tlb }
     {
@@ -89,5 +81,46 @@ impl<P: Mapping, M: Memory> Window<P, M> {
             lookups: self.tlb.lookups(),
             fills: self.tlb.fills(),
         }
+    }
+}
+
+impl<P: Mapping, M: Memory> Memory for Window<P, M> {
+    ghost meaning = { λ w. shown (is_ok w.opening) (P.Mapping.meaning w.mapping) (M.Memory.meaning w.below) };
+
+    ghost coherent = { λ w. Standing (P.Mapping.armed w.mapping) (M.Memory.coherent w.below) (is_ok w.opening) (P.Mapping.meaning w.mapping) (M.Memory.meaning w.below) w.tlb };
+
+    ghost formed = { λ w c. shown_formed (is_ok w.opening) (P.Mapping.meaning w.mapping) (M.Memory.meaning w.below) w.tlb c.ready };
+
+    ghost step = { λ before call after. Called ((after.mapping ≡ before.mapping) × (after.opening ≡ before.opening)) (Reached M.Memory.step before.below after.below) (is_ok before.opening) (P.Mapping.meaning before.mapping) (M.Memory.meaning before.below) (M.Memory.meaning after.below) before.tlb after.tlb call };
+
+    // The size of the image; 0 if the window is shut.
+    fn size(&self) -> u64 {
+        if self.opening.is_ok() {
+            self.mapping.image_size()
+        } else {
+            0
+        }
+    }
+
+    fn read(&mut self, a: u64, buffer: &mut [u8]) -> Result<(), Fault> {
+        check_run(self.size(), a, buffer.len())?;
+        read_run(
+            &self.mapping,
+            &mut self.below,
+            &mut self.tlb,
+            WindowAddress(a),
+            buffer,
+        )
+    }
+
+    fn write(&mut self, a: u64, bytes: &[u8]) -> Result<(), Fault> {
+        check_run(self.size(), a, bytes.len())?;
+        write_run(
+            &self.mapping,
+            &mut self.below,
+            &mut self.tlb,
+            WindowAddress(a),
+            bytes,
+        )
     }
 }
