@@ -13,4 +13,5 @@ entry_examples = record {
   none = λ s v. refl;
   cause_four = refl;
   cause_five = refl;
+  three_fills = refl;
 }
