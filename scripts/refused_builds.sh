@@ -9,7 +9,7 @@ trap 'rm -rf "$work"' EXIT
 failed=0
 
 mkdir "$work/crates"
-for crate in units memory plain records mapping stride page_table opening window dense; do
+for crate in units memory plain records mapping stride page_table opening walk transfer window; do
     cp -R crates/$crate "$work/crates/"
 done
 cat >"$work/crates.txt" <<'LIST'
@@ -21,8 +21,9 @@ mapping: units
 stride: units mapping
 page_table: units memory mapping
 opening: units memory mapping page_table
-window: memory mapping page_table opening
-dense: units memory mapping
+walk: units memory mapping page_table
+transfer: units memory mapping page_table walk
+window: memory mapping page_table opening walk transfer
 LIST
 
 # crate NAME USES: a crate of no source yet, which uses these
@@ -40,6 +41,7 @@ program() {
 #![tactic(auto)]
 
 use mapping::{Mapping, MemoryAddress, RegisterSet, WindowAddress};
+use memory::Memory;
 use page_table::read_entry;
 use plain::Plain;
 use stride::Stride;
@@ -65,7 +67,7 @@ mapping() {
 
 # example NAME: a crate of the Rust code in README.md
 example() {
-    crate "$1" 'plain records mapping stride dense'
+    crate "$1" 'plain records mapping stride window memory'
     sed -n '/^```rust$/,/^```$/p' README.md | sed '/^```/d' >"$work/crates/$1/src/lib.rt"
     if ! grep -q '^pub fn' "$work/crates/$1/src/lib.rt"; then
         echo 'refused builds: FAILED: README.md has no example'

@@ -1,4 +1,4 @@
-// What the programs share.
+// What is of any program: the list on its input, its arguments, and how it ends.
 #![tactic(auto)]
 
 mod program;

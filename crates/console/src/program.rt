@@ -1,4 +1,4 @@
-// What the programs share: the list of prices on their input, the help text, and how they end.
+// The list of prices on the input, the help text, and how a program ends.
 ghost use Rattle.std.specs.Prelude.{◌≡◌, ◌≤◌, IfOk};
 ghost use Rattle.console.specs.Status.{exit_status};
 

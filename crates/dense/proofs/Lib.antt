@@ -1,2 +1,0 @@
-pub mod Grains
-pub mod Gathers

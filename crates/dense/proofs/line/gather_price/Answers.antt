@@ -1,9 +1,0 @@
--- Assumes nothing.
-use Rattle.memory.proofs.Reaches.{only_read_one}
-use Rattle.dense.proofs.line.gather_price.Goals as goal
-
-pub returns-in_err-from_below-clause-reads : goal.returns-in_err-from_below-clause-reads
-returns-in_err-from_below-clause-reads g c = only_read_one g.M.Memory.step _ _ c.read.ensures.step
-
-pub returns-clause-reads : goal.returns-clause-reads
-returns-clause-reads g c = only_read_one g.M.Memory.step _ _ c.read.ensures.step
