@@ -15,3 +15,5 @@ mod lists;
 mod messages;
 #[cfg(test)]
 mod suite;
+#[cfg(test)]
+mod windows;

@@ -1,6 +1,8 @@
-// What the tests share: a comparison that is an error where two values differ.
+// What the tests share: a comparison that is an error where two values differ, and sets that are armed.
 #![tactic(auto)]
 
+mod armed;
 mod comparison;
 
+pub use armed::armed_set;
 pub use comparison::same;

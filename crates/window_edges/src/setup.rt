@@ -1,6 +1,6 @@
 // What the tests ask of an opening: which mapping it goes by, over which memory, with which board.
-use expect::same;
-use mapping::{Mapping, RegisterSet};
+use expect::{armed_set, same};
+use mapping::Mapping;
 use memory::{ByteMemory, LineFormat, Memory};
 use std::alloc::Global;
 use std::test::Fail;
@@ -47,14 +47,6 @@ pub(crate) const TWO_LINES: Setting = Setting {
     board: 7,
 };
 
-fn set_of<P: Mapping>(registers: &[u64]) -> RegisterSet<P> {
-    let mut set = RegisterSet::<P>::new();
-    for (number, value) in (0..).zip(registers) {
-        let _ = set.write(number, *value);
-    }
-    set
-}
-
 // Bytes that hold a memory of zeros but for these entries of its page table.
 pub(crate) fn table_bytes<F: LineFormat>(
     heap: Global,
@@ -92,9 +84,7 @@ fn check_window<P: Mapping, M: Memory + Drop>(
 ) -> Result<(), Fail>
     requires { M.coherent below }
 {
-    let Ok(set) = set_of::<P>(&setting.registers).arm() else {
-        return Err(Fail::new("not armed"));
-    };
+    let set = armed_set::<P>(&setting.registers)?;
     let is_open = answer == OPEN;
     let image = if is_open { setting.registers[0] } else { 0 };
     let size = below.size();

@@ -1,0 +1,268 @@
+// Runs that are refused: which fault is answered, and that it is the only thing that comes of them.
+use crate::scenes::{CHECKED_BYTES, LIVE, OBJECTS, PLAIN_BYTES, Scene, scene_bytes};
+use crate::script::{Answer, Call, Run, check_opened, check_runs};
+use checked::{CheckByte, flip};
+use colour::Colour;
+use direct::Direct;
+use expect::same;
+use memory::{Cause, Fault};
+use plain::{CellsAlone, Plain};
+use spoilt::OneFault;
+use std::alloc::Global;
+use std::test::Fail;
+use stride::Stride;
+use transpose::Transpose;
+
+const LAST: u64 = u64::MAX;
+
+fn here(cause: Cause, place: u64) -> Answer {
+    Err(Fault::here(cause, place))
+}
+
+// A failed check of the memory below.
+fn below(place: u64) -> Answer {
+    Err(Fault {
+        cause: Cause::FailedCheck,
+        depth: 1,
+        place,
+    })
+}
+
+// Pages 1 and 3 of the objects are not in memory: the entry of page 1 is not valid, and out as well.
+const DEAD: Scene = Scene {
+    registers: OBJECTS,
+    entries: &[
+        (0, 0x8000_0005),
+        (1, 0x1000_0002),
+        (2, 0x8000_0003),
+        (3, 0x9000_0006),
+    ],
+};
+
+#[test]
+fn dead_entries(rt: HostRuntime) -> Result<(), Fail> {
+    let heap = rt.alloc();
+    let bytes = scene_bytes::<CellsAlone>(heap, PLAIN_BYTES, DEAD)?;
+    check_runs::<Stride, CellsAlone>(
+        heap,
+        DEAD,
+        &bytes,
+        &[
+            (0, 0, here(Cause::BadRun, 0), 0, 0),
+            (0, 129, here(Cause::BadRun, 0), 0, 0),
+            (127, 2, here(Cause::BadRun, 127), 0, 0),
+            (256, 1, here(Cause::PastEnd, 256), 0, 0),
+            (LAST, 1, here(Cause::PastEnd, LAST), 0, 0),
+            (LAST, 2, here(Cause::BadRun, LAST), 0, 0),
+            (0, 64, Ok(()), 2, 1),
+            (0, 128, here(Cause::NoPage, 64), 3, 1),
+            (63, 1, Ok(()), 1, 1),
+            (63, 2, here(Cause::NoPage, 64), 2, 1),
+            (64, 1, here(Cause::NoPage, 64), 1, 0),
+            (100, 28, here(Cause::NoPage, 100), 1, 0),
+            (128, 64, Ok(()), 2, 1),
+            (128, 128, here(Cause::PageOut, 192), 3, 1),
+            (190, 3, here(Cause::PageOut, 192), 2, 1),
+            (191, 1, Ok(()), 1, 1),
+            (192, 1, here(Cause::PageOut, 192), 1, 0),
+            (255, 1, here(Cause::PageOut, 255), 1, 0),
+        ],
+    )
+}
+
+// Pages 2 and 6 of the image are drawn from pages 0 and 1 of the data, and nothing stands behind the others.
+#[test]
+fn blanks(rt: HostRuntime) -> Result<(), Fail> {
+    let heap = rt.alloc();
+    let scene = Scene {
+        registers: [32768, 1, 16384, 4096, 8192],
+        entries: &[(0, 0x8000_0005), (1, 0x9000_0000)],
+    };
+    let bytes = scene_bytes::<CellsAlone>(heap, PLAIN_BYTES, scene)?;
+    check_runs::<Colour, CellsAlone>(
+        heap,
+        scene,
+        &bytes,
+        &[
+            (0, 1, here(Cause::Blank, 0), 0, 0),
+            (0, 128, here(Cause::Blank, 0), 0, 0),
+            (8191, 1, here(Cause::Blank, 8191), 0, 0),
+            (8191, 2, here(Cause::BadRun, 8191), 0, 0),
+            (8192, 128, Ok(()), 1, 1),
+            (12287, 1, Ok(()), 1, 1),
+            (12288, 1, here(Cause::Blank, 12288), 0, 0),
+            (24575, 1, here(Cause::Blank, 24575), 0, 0),
+            (24576, 1, here(Cause::PageOut, 24576), 1, 0),
+            (28671, 1, here(Cause::PageOut, 28671), 1, 0),
+            (32767, 1, here(Cause::Blank, 32767), 0, 0),
+            (32768, 1, here(Cause::PastEnd, 32768), 0, 0),
+        ],
+    )
+}
+
+// Runs by objects over a checked memory in which a bit of this borrowed byte turns over once all is written.
+fn check_flipped(heap: Global, scene: Scene, at: usize, runs: &[Run]) -> Result<(), Fail> {
+    let mut bytes = scene_bytes::<CheckByte>(heap, CHECKED_BYTES, scene)?;
+    flip(&mut bytes, at, 5);
+    check_runs::<Stride, CheckByte>(heap, scene, &bytes, runs)
+}
+
+// The line of the object at 32 is line 177 of the memory, and the table begins with line 32.
+#[test]
+fn failed_checks(rt: HostRuntime) -> Result<(), Fail> {
+    let heap = rt.alloc();
+    // a cell of the object, a cell before it, and the check byte, in 177 × 129 = 22833 and the 128 bytes after it
+    for at in [22940, 22833, 22961] {
+        check_flipped(
+            heap,
+            LIVE,
+            at,
+            &[
+                (0, 32, Ok(()), 1, 1),
+                (0, 33, below(22752), 2, 1),
+                (0, 128, below(22752), 2, 1),
+                (40, 1, below(22760), 1, 1),
+                (63, 2, below(22783), 1, 1),
+                (64, 64, Ok(()), 2, 1),
+                (128, 128, Ok(()), 4, 2),
+            ],
+        )?;
+    }
+    // the first fault of a run decides, and not the page table before the data
+    check_flipped(
+        heap,
+        DEAD,
+        22940,
+        &[
+            (0, 128, below(22752), 2, 1),
+            (63, 2, below(22783), 1, 1),
+            (64, 64, here(Cause::NoPage, 64), 1, 0),
+        ],
+    )?;
+    // the table: a cell of entry 0, a cell past the last entry, and the check byte, from 32 × 129 = 4128 on
+    for at in [4128, 4200, 4256] {
+        check_flipped(
+            heap,
+            LIVE,
+            at,
+            &[
+                (0, 128, below(4096), 1, 0),
+                (40, 1, below(4096), 1, 0),
+                (64, 1, below(4100), 1, 0),
+                (130, 1, below(4104), 1, 0),
+                (224, 32, below(4108), 1, 0),
+                (256, 1, here(Cause::PastEnd, 256), 0, 0),
+            ],
+        )?;
+    }
+    Ok(())
+}
+
+// The second element of the line stands 32 pages after the first, and its entry in the second line of the table.
+#[test]
+fn failed_check_of_a_later_entry(rt: HostRuntime) -> Result<(), Fail> {
+    let heap = rt.alloc();
+    let scene = Scene {
+        registers: [128, 1, 64, 131072, 2],
+        entries: &[(0, 0x8000_0005), (32, 0x8000_0003)],
+    };
+    let mut bytes = scene_bytes::<CheckByte>(heap, CHECKED_BYTES, scene)?;
+    flip(&mut bytes, 4300, 0);
+    check_runs::<Transpose, CheckByte>(
+        heap,
+        scene,
+        &bytes,
+        &[
+            (0, 64, Ok(()), 1, 1),
+            (0, 128, below(4224), 2, 1),
+            (63, 2, below(4224), 2, 1),
+            (64, 1, below(4224), 1, 0),
+            (100, 28, below(4224), 1, 0),
+        ],
+    )
+}
+
+// The spoilt cell is 4230: the third of entry 33, or a cell of the data.
+#[test]
+fn spoilt_cell(rt: HostRuntime) -> Result<(), Fail> {
+    let heap = rt.alloc();
+    let in_entry = Scene {
+        registers: [128, 1, 64, 135168, 2],
+        entries: &[(0, 0x8000_0005), (33, 0x8000_0003)],
+    };
+    let bytes = scene_bytes::<CellsAlone>(heap, PLAIN_BYTES, in_entry)?;
+    check_runs::<Transpose, OneFault>(
+        heap,
+        in_entry,
+        &bytes,
+        &[
+            (0, 64, Ok(()), 1, 1),
+            (0, 128, below(4230), 2, 1),
+            (64, 1, below(4230), 1, 0),
+        ],
+    )?;
+    let in_line = Scene {
+        registers: [8192, 0, 0, 0, 0],
+        entries: &[(0, 0x8000_0001), (1, 0x8000_0002)],
+    };
+    let bytes = scene_bytes::<CellsAlone>(heap, PLAIN_BYTES, in_line)?;
+    check_runs::<Direct, OneFault>(
+        heap,
+        in_line,
+        &bytes,
+        &[
+            (0, 128, Ok(()), 1, 1),
+            (128, 128, below(4230), 1, 1),
+            (128, 6, Ok(()), 1, 1),
+            (128, 7, below(4230), 1, 1),
+            (135, 121, Ok(()), 1, 1),
+        ],
+    )?;
+    // objects of 4 bytes from 4 on, one in each line: 4230 is the third byte of the second
+    let in_object = Scene {
+        registers: [128, 0, 4, 128, 4],
+        entries: &[(0, 0x8000_0001)],
+    };
+    let bytes = scene_bytes::<CellsAlone>(heap, PLAIN_BYTES, in_object)?;
+    check_runs::<Stride, OneFault>(
+        heap,
+        in_object,
+        &bytes,
+        &[
+            (0, 6, Ok(()), 2, 1),
+            (0, 7, below(4230), 2, 1),
+            (0, 128, below(4230), 2, 1),
+            (4, 4, below(4230), 1, 1),
+            (7, 5, Ok(()), 2, 1),
+            (8, 120, Ok(()), 30, 1),
+        ],
+    )
+}
+
+// A window with a board that is too short.
+#[test]
+fn shut(rt: HostRuntime) -> Result<(), Fail> {
+    let heap = rt.alloc();
+    let mut bytes = scene_bytes::<CellsAlone>(heap, PLAIN_BYTES, LIVE)?;
+    let before = bytes.to_vec(heap)?;
+    for call in [Call::Read, Call::Write] {
+        check_opened::<Stride, Plain>(
+            heap,
+            LIVE.registers,
+            Plain::new(&mut bytes),
+            &mut [0; 7],
+            21,
+            &[
+                (call, 0, 0, here(Cause::BadRun, 0), 0, 0),
+                (call, 0, 1, here(Cause::PastEnd, 0), 0, 0),
+                (call, 0, 128, here(Cause::PastEnd, 0), 0, 0),
+                (call, 0, 129, here(Cause::BadRun, 0), 0, 0),
+                (call, 127, 2, here(Cause::BadRun, 127), 0, 0),
+                (call, 4096, 4, here(Cause::PastEnd, 4096), 0, 0),
+                (call, LAST, 1, here(Cause::PastEnd, LAST), 0, 0),
+                (call, LAST, 2, here(Cause::BadRun, LAST), 0, 0),
+            ],
+        )?;
+    }
+    same(bytes == before, true)
+}

@@ -1,0 +1,111 @@
+// The marks that calls leave in the page table, and the bytes that writes leave beside them.
+use crate::scenes::{CHECKED_BYTES, OBJECTS, PLAIN_BYTES, Scene};
+use crate::script::{Call, Change, Step, check_script};
+use checked::CheckByte;
+use direct::Direct;
+use memory::{Cause, Fault};
+use plain::CellsAlone;
+use std::test::Fail;
+use stride::Stride;
+
+// One page without marks, one modified, one referenced, and one that is out. The entries stand at 4096, 4100, 4104 and 4108.
+const SCENE: Scene = Scene {
+    registers: OBJECTS,
+    entries: &[
+        (0, 0x8000_0005),
+        (1, 0xa000_0000),
+        (2, 0xc000_0003),
+        (3, 0x9000_0006),
+    ],
+};
+
+#[test]
+fn reads_and_writes(rt: HostRuntime) -> Result<(), Fail> {
+    let out = Err(Fault::here(Cause::PageOut, 192));
+    let bad = Err(Fault::here(Cause::BadRun, 0));
+    let cases: &[(&[Step], &[Change])] = &[
+        (&[], &[]),
+        (&[(Call::Read, 0, 1, Ok(()), 1, 1)], &[(4096, 1, 0xc0)]),
+        (&[(Call::Read, 64, 1, Ok(()), 1, 1)], &[(4100, 1, 0xe0)]),
+        (
+            &[(Call::Read, 0, 128, Ok(()), 4, 2)],
+            &[(4096, 1, 0xc0), (4100, 1, 0xe0)],
+        ),
+        // a page that is referenced already
+        (&[(Call::Read, 128, 64, Ok(()), 2, 1)], &[]),
+        (
+            &[(Call::Write, 128, 1, Ok(()), 1, 1)],
+            &[(4104, 1, 0xe0), (12896, 1, 0xee)],
+        ),
+        (
+            &[(Call::Write, 30, 4, Ok(()), 2, 1)],
+            &[(4096, 1, 0xe0), (20606, 2, 0xee), (22752, 2, 0xee)],
+        ),
+        (
+            &[(Call::Write, 0, 128, Ok(()), 4, 2)],
+            &[
+                (4096, 1, 0xe0),
+                (4100, 1, 0xe0),
+                (20576, 32, 0xee),
+                (22752, 32, 0xee),
+                (352, 32, 0xee),
+                (2528, 32, 0xee),
+            ],
+        ),
+        // a write after a read, and a read after a write
+        (
+            &[
+                (Call::Read, 0, 1, Ok(()), 1, 1),
+                (Call::Write, 0, 1, Ok(()), 2, 1),
+            ],
+            &[(4096, 1, 0xe0), (20576, 1, 0xee)],
+        ),
+        (
+            &[
+                (Call::Write, 0, 1, Ok(()), 1, 1),
+                (Call::Read, 0, 1, Ok(()), 2, 1),
+            ],
+            &[(4096, 1, 0xe0), (20576, 1, 0xee)],
+        ),
+        // refused calls, also where the run begins well; faults.rt has more, over pages without marks
+        (&[(Call::Read, 128, 128, out, 3, 1)], &[]),
+        (&[(Call::Write, 128, 128, out, 3, 1)], &[]),
+        (&[(Call::Write, 0, 129, bad, 0, 0)], &[]),
+        // a write to the page that a refused call has read of the table
+        (
+            &[
+                (Call::Write, 128, 128, out, 3, 1),
+                (Call::Write, 160, 32, Ok(()), 4, 1),
+            ],
+            &[(4104, 1, 0xe0), (15072, 32, 0xee)],
+        ),
+    ];
+    for (steps, changes) in cases {
+        let heap = rt.alloc();
+        check_script::<Stride, CellsAlone>(heap, PLAIN_BYTES, SCENE, steps, changes)?;
+        check_script::<Stride, CheckByte>(heap, CHECKED_BYTES, SCENE, steps, changes)?;
+    }
+    Ok(())
+}
+
+// Pages 0 and 32 take one place of the TLB, and each mark stands in the table whether the page is held or not.
+#[test]
+fn displaced(rt: HostRuntime) -> Result<(), Fail> {
+    let scene = Scene {
+        registers: [135168, 1, 0, 0, 0],
+        entries: &[(0, 0x8000_0005), (32, 0x8000_0003)],
+    };
+    check_script::<Direct, CellsAlone>(
+        rt.alloc(),
+        PLAIN_BYTES,
+        scene,
+        &[
+            (Call::Read, 0, 1, Ok(()), 1, 1),
+            (Call::Read, 131072, 1, Ok(()), 2, 2),
+            (Call::Write, 4095, 1, Ok(()), 3, 3),
+            (Call::Read, 131200, 1, Ok(()), 4, 4),
+            (Call::Read, 0, 128, Ok(()), 5, 5),
+        ],
+        &[(4096, 1, 0xe0), (4224, 1, 0xc0), (24575, 1, 0xee)],
+    )
+}

@@ -1,0 +1,147 @@
+// Calls on one window, one after the other, and what is due of each.
+use crate::scenes::{Scene, scene_bytes};
+use expect::{armed_set, same};
+use mapping::Mapping;
+use memory::{ByteMemory, Fault, LineFormat, Memory};
+use std::alloc::Global;
+use std::test::Fail;
+use window::Window;
+
+#[derive(Clone, Copy)]
+pub(crate) enum Call {
+    Read,
+    Write,
+}
+
+pub(crate) type Answer = Result<(), Fault>;
+
+// A call, the address and the length of its run, its answer, and the counts of lookups and of fills after it.
+pub(crate) type Step = (Call, u64, usize, Answer, u64, u64);
+
+// Cells of the memory that a script leaves: an address, a number of cells, and the byte that each of them holds.
+pub(crate) type Change = (u64, usize, u8);
+
+// What every byte of a buffer is before a call; so it is also what a script writes.
+const FILL: u8 = 0xee;
+
+// One call. A buffer that is refused has to be as it was.
+fn check_call<W: Memory>(
+    heap: Global,
+    memory: &mut W,
+    call: Call,
+    a: u64,
+    n: usize,
+    answer: Answer,
+) -> Result<(), Fail>
+    requires { W.coherent memory.old }
+    ensures { W.coherent memory.new }
+{
+    let mut buffer = vec![in heap; FILL; n]?;
+    let found = match call {
+        Call::Read => memory.read(a, &mut buffer),
+        Call::Write => memory.write(a, &buffer),
+    };
+    same(found, answer)?;
+    let untouched = buffer.iter().all(|byte| *byte == FILL);
+    same(found.is_ok() || untouched, true)
+}
+
+// A script on a window that opens with a board of a byte for each page.
+pub(crate) fn check_window<P: Mapping, M: Memory + Drop>(
+    heap: Global,
+    registers: [u64; 5],
+    below: M,
+    steps: &[Step],
+) -> Result<(), Fail>
+    requires { M.coherent below }
+{
+    check_opened::<P, M>(heap, registers, below, &mut [0; 8], 0, steps)
+}
+
+// A script on a window whose opening has this reason: 0 where it opens.
+pub(crate) fn check_opened<P: Mapping, M: Memory + Drop>(
+    heap: Global,
+    registers: [u64; 5],
+    below: M,
+    board: &mut [u8],
+    reason: u8,
+    steps: &[Step],
+) -> Result<(), Fail>
+    requires { M.coherent below }
+{
+    let set = armed_set::<P>(&registers)?;
+    let mut window = Window::open(set, below, board);
+    let size = if reason == 0 { registers[0] } else { 0 };
+    same(window.report().reason, reason)?;
+    for (call, a, n, answer, lookups, fills) in steps {
+        check_call(heap, &mut window, *call, *a, *n, *answer)?;
+        let report = window.report();
+        same(report.lookups, *lookups)?;
+        same(report.fills, *fills)?;
+    }
+    same(window.size(), size)
+}
+
+// A script over the memory that these bytes hold. Afterwards they have to be as they were but for the changes.
+pub(crate) fn check_bytes<P: Mapping, F: LineFormat>(
+    heap: Global,
+    scene: Scene,
+    bytes: &mut [u8],
+    steps: &[Step],
+    changes: &[Change],
+) -> Result<(), Fail> {
+    let mut due = bytes.to_vec(heap)?;
+    change::<F>(heap, &mut due, changes)?;
+    check_window::<P, ByteMemory<F>>(heap, scene.registers, ByteMemory::<F>::new(bytes), steps)?;
+    same(&*bytes == due.as_slice(), true)
+}
+
+// Makes the changes in a memory.
+pub(crate) fn change<F: LineFormat>(
+    heap: Global,
+    bytes: &mut [u8],
+    changes: &[Change],
+) -> Result<(), Fail> {
+    for (a, n, byte) in changes {
+        let cells = vec![in heap; *byte; *n]?;
+        same(ByteMemory::<F>::new(bytes).write(*a, &cells), Ok(()))?;
+    }
+    Ok(())
+}
+
+// The same over a memory of its own.
+pub(crate) fn check_script<P: Mapping, F: LineFormat>(
+    heap: Global,
+    borrowed: usize,
+    scene: Scene,
+    steps: &[Step],
+    changes: &[Change],
+) -> Result<(), Fail> {
+    let mut bytes = scene_bytes::<F>(heap, borrowed, scene)?;
+    check_bytes::<P, F>(heap, scene, &mut bytes, steps, changes)
+}
+
+// A run as a read and as a write, each the first call of its window. The counts are those after it.
+pub(crate) type Run = (u64, usize, Answer, u64, u64);
+
+// Runs over the memory that these bytes hold. A refusal changes nothing; an accepted run is not looked at further.
+pub(crate) fn check_runs<P: Mapping, F: LineFormat>(
+    heap: Global,
+    scene: Scene,
+    bytes: &[u8],
+    runs: &[Run],
+) -> Result<(), Fail> {
+    for (a, n, answer, lookups, fills) in runs {
+        for call in [Call::Read, Call::Write] {
+            let mut own = bytes.to_vec(heap)?;
+            check_window::<P, ByteMemory<F>>(
+                heap,
+                scene.registers,
+                ByteMemory::<F>::new(&mut own),
+                &[(call, *a, *n, *answer, *lookups, *fills)],
+            )?;
+            same(answer.is_ok() || own.as_slice() == bytes, true)?;
+        }
+    }
+    Ok(())
+}
