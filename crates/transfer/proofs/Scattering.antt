@@ -171,6 +171,3 @@ scattering_all l laws m a bs done n left none f =
 -- the spot that is next, and those after it
 pub next_spot : {l : Layout} {m : Meaning} {a : ℕ} {bs : List ℕ} {done : ℕ} {n : Meaning} (spots : List Spot) (i : ℕ) (d : Spot) → i < length spots → Scattering l m a bs (drop i spots) done n → Scattering l m a bs (get_or spots i d ∷ drop (i + 1) spots) done n
 next_spot {l} {m} {a} {bs} {done} {n} spots i d low x = subst (λ left. Scattering l m a bs left done n) (drop_more spots i d low) x
-
-pub part_of_run : (bs : List ℕ) (done step : ℕ) → take (done + step - done) (drop done bs) ≡ take step (drop done bs)
-part_of_run bs done step = ap (λ k. take k (drop done bs)) (omega arith)

@@ -1,5 +1,5 @@
 // What an accepted run leaves: the marks of its pages, and its bytes where its parts stand.
-ghost use Rattle.std.specs.Prelude.{◌≡◌, ℕ, ◌+◌, ◌≤◌, length, map, Ok};
+ghost use Rattle.std.specs.Prelude.{◌≡◌, ℕ, ◌+◌, ◌≤◌, length, map, take, drop, Ok};
 ghost use Rattle.memory.specs.Calls.{first_fault, written};
 ghost use Rattle.memory.specs.Reach.{writing, Reached};
 ghost use Rattle.page_table.specs.Table.{table_of, GoodTable};
@@ -62,17 +62,18 @@ pub(crate) fn scatter<P: Mapping, M: Memory>(
     let mut done = 0;
     for spot in spots {
         let step = part_size(a.0 + done as u64, grain, bytes.len() - done);
-        write_below(below, spot.address, &bytes[done..done + step]);
+        write_part(below, spot.address, bytes, done, step);
         done += step;
     }
 }
 
-// A write of the memory below that is known to be accepted.
-fn write_below<M: Memory>(below: &mut M, p: MemoryAddress, bytes: &[u8])
-    requires { M.Memory.coherent below.old }
-    ensures below { M.Memory.meaning below.new ≡ written (M.Memory.meaning below.old) p.0 bytes.now }
+// Writes the step bytes of a run from `done` on, where the memory below is known to take them.
+fn write_part<M: Memory>(below: &mut M, p: MemoryAddress, bytes: &[u8], done: usize, step: usize)
+    requires coherent { M.Memory.coherent below.old }
+    requires inside { done + step ≤ length bytes.now }
+    ensures below { M.Memory.meaning below.new ≡ written (M.Memory.meaning below.old) p.0 (take step (drop done bytes.now)) }
     ensures coherent { M.Memory.coherent below.new }
-    ensures step { M.Memory.step below.old (writing p.0 bytes.now) below.new }
+    ensures step { M.Memory.step below.old (writing p.0 (take step (drop done bytes.now))) below.new }
 {
-    let _ = below.write(p.0, bytes);
+    let _ = below.write(p.0, &bytes[done..done + step]);
 }

@@ -1,10 +1,10 @@
 -- Assumes nothing.
-use Rattle.std.proofs.Common.{◌≡◌, ℕ, ◌+◌, ◌-◌, ◌%◌, min, List, length, get_or, take, drop, ap, ◌∙◌}
+use Rattle.std.proofs.Common.{◌≡◌, ℕ, ◌+◌, ◌-◌, ◌%◌, min, List, length, get_or, take, drop, ap, ◌∙◌, refl}
 use Rattle.std.proofs.lemmas.List.{drop_all}
 use Rattle.memory.specs.Reach.{writing}
 use Rattle.memory.proofs.Reaches.{reached_none, reached_one, reached_more}
 use Rattle.walk.specs.declared.spot.Spot.{Spot}
-use Rattle.transfer.proofs.Scattering.{scattering_none, scattering_more, scattering_all, next_spot, part_of_run, store_part, stands_here, store_accepted}
+use Rattle.transfer.proofs.Scattering.{scattering_none, scattering_more, scattering_all, next_spot, store_part, stands_here, store_accepted}
 use Rattle.transfer.proofs.Storing.{store_step}
 use Rattle.transfer.proofs.scatter.scatter.Goals as goal
 
@@ -17,7 +17,7 @@ loop-spot-preserved g c =
     let laws = g.met.P.Mapping.laws c.args.mapping.now c.requires.armed in
     let m = g.M.Memory.meaning c.args.below.now in
     let n = g.M.Memory.meaning c.loop-spot.below in
-    let x = g.M.Memory.meaning c.write_below.new.below in
+    let x = g.M.Memory.meaning c.write_part.new.below in
     let a : ℕ = c.args.a.0 in
     let bs : List ℕ = c.args.bytes.now in
     let d : ℕ = c.loop-spot.done in
@@ -29,15 +29,15 @@ loop-spot-preserved g c =
     let f = next_spot c.args.spots.now i nowhere c.loop-spot-test.true c.loop-spot.invariant.0 in
     let is : step ≡ min (l.grain - (a + d) % l.grain) (length bs - d) =
     c.part_size-step.ensures ∙ ap (λ g. min (g - (a + d) % g) (length bs - d)) c.grain-grain.ensures in
-    let part : List ℕ = take (d + step - d) (drop d bs) in
-    let same : part ≡ take step (drop d bs) = part_of_run bs d step in
+    let part : List ℕ = take step (drop d bs) in
+    let same : part ≡ part = refl in
     let piece = store_part l laws m a bs spot later d n f step is c.requires.inside c.requires.accepted part same in
     let here = stands_here l laws m a bs spot later d n f step is c.requires.inside c.requires.accepted part same in
     let fine = store_accepted l laws m a bs spot later d n f step is c.requires.inside c.requires.accepted part same in
-    let new = store_step l laws n f.table (a + d) spot.address.0 part piece here fine x c.write_below.ensures.below in (
+    let new = store_step l laws n f.table (a + d) spot.address.0 part piece here fine x c.write_part.ensures.below in (
       scattering_more l laws m a bs spot later d n f step is c.requires.inside c.requires.accepted part same x new,
-      c.write_below.ensures.coherent,
-      reached_more g.M.Memory.step c.loop-spot.invariant.2 (reached_one g.M.Memory.step (writing _ _) c.write_below.ensures.step),
+      c.write_part.ensures.coherent,
+      reached_more g.M.Memory.step c.loop-spot.invariant.2 (reached_one g.M.Memory.step (writing _ _) c.write_part.ensures.step),
     )
 
 pub returns-clause-all : goal.returns-clause-all
