@@ -5,5 +5,6 @@ pub mod Run
 pub mod Meaning
 pub mod Bytes
 pub mod Calls
+pub mod Up
 pub mod Relation
 pub mod Reach

@@ -3,15 +3,29 @@
 -- Reached R s t: some calls do
 -- AllReads cs: every one of the calls cs is a read
 -- OnlyRead R s t: reads alone lead from s to t
+-- first_cell c, cells_of c: the address and the length of the run of the call c
+-- Writes c: c is a write
 -- bytes_after f xs c: what the bytes xs are after the call c, where f says what they are after a write
 -- after_calls f x cs: what x becomes by the calls cs, one after the other, where f says what it becomes by one
-use Rattle.std.specs.Prelude.{◌≡◌, ℕ, List, [], ◌∷◌}
+use Rattle.std.specs.Prelude.{◌≡◌, ℕ, List, [], ◌∷◌, length}
 
 pub data Call : Type 0 where
   -- a read at an address, into a buffer that held these bytes
   reading : ℕ → List ℕ → Call
   -- a write of these bytes at an address
   writing : ℕ → List ℕ → Call
+
+abbrev pub first_cell : Call → ℕ
+first_cell (reading a b) = a
+first_cell (writing a bs) = a
+
+abbrev pub cells_of : Call → ℕ
+cells_of (reading a b) = length b
+cells_of (writing a bs) = length bs
+
+abbrev pub Writes : Call → Type 0
+Writes (reading a b) = ⊥
+Writes (writing a bs) = Unit {0}
 
 -- a read leaves them
 abbrev pub bytes_after : (List ℕ → ℕ → List ℕ → List ℕ) → List ℕ → Call → List ℕ

@@ -2,7 +2,6 @@
 -- through s v r: where the pseudo-virtual address v of the window address s stands, by the entry r of its page
 -- walked_from t m s place: the address below where cell s stands, by its place and the table t, or the fault that is met on the way
 -- walked l m s: the same by the layout l
--- cell_up c: the cell c as the layer above has it
 -- cell_behind m r: the cell of a window that stands where the walk r led, or its fault
 -- viewed l m s: the cell s of an open window over the memory m
 -- windowed l m: the meaning of that window
@@ -12,8 +11,9 @@ use Rattle.std.specs.Prelude.{ℕ, ◌+◌, ◌*◌, ◌/◌, ◌%◌, Bool, con
 use Rattle.std.specs.Result.{result_map_both}
 use Rattle.memory.specs.declared.fault.Cause.TheVariants.{Blank}
 use Rattle.memory.specs.declared.fault.Fault.{Fault}
-use Rattle.memory.specs.Fault.{here, passed_up}
-use Rattle.memory.specs.Meaning.{Cell, byte, fault, Meaning}
+use Rattle.memory.specs.Fault.{here}
+use Rattle.memory.specs.Meaning.{Cell, fault, Meaning}
+use Rattle.memory.specs.Up.{cell_up}
 use Rattle.mapping.specs.Rules.{Layout}
 use Rattle.page_table.specs.declared.entry.Entry.{Entry}
 use Rattle.page_table.specs.declared.table.Table.{Table}
@@ -31,10 +31,6 @@ walked_from t m s (Some v) = through s v (entry_read m (entry_address t (v / 409
 
 abbrev pub walked : Layout → Meaning → ℕ → Result ℕ Fault
 walked l m s = walked_from (table_of l) m s (l.place s)
-
-abbrev pub cell_up : Cell → Cell
-cell_up (byte b) = byte b
-cell_up (fault f) = fault (passed_up f)
 
 abbrev pub cell_behind : Meaning → Result ℕ Fault → Cell
 cell_behind m (Ok p) = cell_up (m.cell p)

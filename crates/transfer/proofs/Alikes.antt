@@ -6,13 +6,14 @@ use Rattle.memory.specs.Meaning.{Meaning}
 use Rattle.memory.specs.Calls.{value, stored}
 use Rattle.memory.proofs.Calls.{same_meaning}
 use Rattle.memory.proofs.Writes.{stored_outside}
+use Rattle.memory.specs.Up.{cell_up}
 use Rattle.mapping.specs.Rules.{Layout}
 use Rattle.mapping.specs.Laws.{Lawful}
 use Rattle.page_table.specs.declared.entry.Entry.{Entry}
 use Rattle.page_table.specs.Table.{table_of, entry_address, entry_read, frame_in, frame_of, Live, GoodTable}
-use Rattle.page_table.specs.Walk.{through, walked_from, walked, cell_up, cell_behind, viewed, windowed}
-use Rattle.walk.specs.declared.marks.Access.{Access}
-use Rattle.walk.specs.declared.marks.Access.TheVariants.{Read, Write}
+use Rattle.page_table.specs.Walk.{through, walked_from, walked, cell_behind, viewed, windowed}
+use Rattle.memory.specs.declared.access.Access.{Access}
+use Rattle.memory.specs.declared.access.Access.TheVariants.{Read, Write}
 use Rattle.walk.specs.Marks.{top_after, marked_entry, marked}
 use Rattle.walk.proofs.Marking.{live_entry, marked_entry_is, marked_other}
 use Rattle.transfer.proofs.Grains.{stands, live_at}

@@ -15,8 +15,8 @@ use Rattle.page_table.specs.Table.{table_of}
 use Rattle.page_table.specs.Walk.{walked, viewed, windowed}
 use Rattle.page_table.specs.Ready.{Ready}
 use Rattle.walk.specs.declared.spot.Spot.{Spot}
-use Rattle.walk.specs.declared.marks.Access.{Access}
-use Rattle.walk.specs.declared.marks.Access.TheVariants.{Read, Write}
+use Rattle.memory.specs.declared.access.Access.{Access}
+use Rattle.memory.specs.declared.access.Access.TheVariants.{Read, Write}
 use Rattle.transfer.specs.Parts.{over_parts, and_then, pages_of, Spotted}
 use Rattle.transfer.specs.Lookups.{lookups_of}
 use Rattle.transfer.specs.Scatter.{marked_pages, refreshed_pages, scattered, ScatteredAll}

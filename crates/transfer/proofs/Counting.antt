@@ -14,7 +14,7 @@ use Rattle.page_table.specs.Entry.{is_live}
 use Rattle.page_table.specs.Table.{table_of, entry_address, entry_read}
 use Rattle.page_table.specs.Tlb.{held_entry, kept, counted, Steady}
 use Rattle.page_table.specs.Walk.{viewed, windowed}
-use Rattle.walk.specs.declared.marks.Access.{Access}
+use Rattle.memory.specs.declared.access.Access.{Access}
 use Rattle.walk.specs.Lookup.{taken_in, looked_by, looked, looked_from, looked_at}
 use Rattle.walk.specs.Marks.{refreshed_by, refreshed}
 use Rattle.transfer.specs.Parts.{pages_of}

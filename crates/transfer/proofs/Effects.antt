@@ -2,8 +2,9 @@
 use Rattle.std.proofs.Common.{◌≡◌, ℕ, zero, suc, ◌+◌, ◌%◌, ◌<◌, ◌≤◌, Bool, true, false, cond, ◌||◌, eqb, ◌⊎◌, List, [], ◌∷◌, ◌++◌, length, is_ok, Some, Ok, Err, Result, sym, refl, ap, ◌∙◌, subst, inl, inr, ⊎_elim, mod-lt, arith}
 use Rattle.std.proofs.lemmas.Bool.{cases_lt, false≢true}
 use Rattle.memory.specs.declared.fault.Fault.{Fault}
-use Rattle.memory.specs.Meaning.{Meaning}
-use Rattle.memory.specs.Reach.{Call, reading, writing}
+use Rattle.memory.specs.Meaning.{Cell, byte, fault, Meaning}
+use Rattle.memory.specs.Up.{cell_up}
+use Rattle.memory.specs.Reach.{Call, reading, writing, first_cell, cells_of}
 use Rattle.memory.specs.Calls.{cell_answer, read_answer, write_answer, stored}
 use Rattle.memory.proofs.Calls.{writes_as_reads}
 use Rattle.memory.proofs.Writes.{stored_outside, accepted_each, accepted_taken}
@@ -15,14 +16,14 @@ use Rattle.page_table.specs.Table.{table_of, entry_address, entry_read, frame_of
 use Rattle.page_table.specs.Class.{SameRead}
 use Rattle.page_table.specs.Walk.{walked, cell_behind, viewed, windowed}
 use Rattle.page_table.specs.Ready.{Ready}
-use Rattle.walk.specs.declared.marks.Access.{Access}
-use Rattle.walk.specs.declared.marks.Access.TheVariants.{Read, Write}
+use Rattle.memory.specs.declared.access.Access.{Access}
+use Rattle.memory.specs.declared.access.Access.TheVariants.{Read, Write}
 use Rattle.walk.specs.Lookup.{page_of, page_at}
 use Rattle.walk.specs.Marks.{marked_entry}
 use Rattle.transfer.specs.Parts.{Part, over_parts, and_then, pages_of}
 use Rattle.transfer.specs.Scatter.{LivePages, put, scattered}
 use Rattle.transfer.specs.Call.{marked_run, below_after_read, below_after_write, below_called}
-use Rattle.transfer.specs.Effect.{first_cell, cells_of, Accepted, Touches, Effect}
+use Rattle.transfer.specs.Effect.{Accepted, Touches, StandsThere, Effect}
 use Rattle.transfer.proofs.Grains.{stands}
 use Rattle.transfer.proofs.Alikes.{Alike, good_alike}
 use Rattle.transfer.proofs.Storing.{entry_kept, stored_alike}
@@ -158,18 +159,28 @@ module _ (l : Layout) (laws : Lawful l) (m : Meaning) (good : GoodTable (table_o
     by (Ok u) is = read_effect_accepted a b is
     by (Err f) is = refused_effect l m (reading a b) f is
 
--- what stored bytes leave, whose cells stand by the table in base
-record Spread (l : Layout) (base m n : Meaning) : Type 0 where
+-- what k stored bytes leave, whose cells from a on stand by the table in base
+record Spread (l : Layout) (base : Meaning) (a k : ℕ) (m n : Meaning) : Type 0 where
   size : n.size ≡ m.size
-  cells : (p : ℕ) → ((s : ℕ) → walked l base s ≡ Ok p → ⊥) → n.cell p ≡ m.cell p
+  cells : (p : ℕ) → ((s : ℕ) → a ≤ s → s < a + k → walked l base s ≡ Ok p → ⊥) → n.cell p ≡ m.cell p
   walks : (s : ℕ) → walked l n s ≡ walked l m s
   entries : (k : ℕ) → k < (table_of l).entries → entry_read n (entry_address (table_of l) k) ≡ entry_read m (entry_address (table_of l) k)
+
+-- each cell of an accepted run is a byte
+byte_there : (l : Layout) (m : Meaning) (a n : ℕ) → read_answer (windowed l m) a n ≡ Ok tt → (s p : ℕ) → a ≤ s → s < a + n → walked l m s ≡ Ok p → StandsThere l m p
+unfolding viewed
+byte_there l m a n accepted s p low high stands =
+    let b = behind (m.cell p) (ap (λ r. cell_answer (cell_behind m r)) (sym stands) ∙ accepted_each (windowed l m) a n accepted s (low, high)) in
+    record { cell = s; value = b.0; stands = stands; is_byte = b.1 } where
+      behind : (c : Cell) → cell_answer (cell_up c) ≡ Ok tt → (b : ℕ) × (c ≡ byte b)
+      behind (byte b) e = (b, refl)
+      behind (fault f) e = absurd cc
 
 one_byte : (l : Layout) → Lawful l → (s : ℕ) → s < l.image_size → Part l s 1
 one_byte l laws s low = record { some = omega arith; grain = let some : 0 < l.grain = omega (arith, laws.grain_least) in let x : s % l.grain < l.grain = mod-lt s some in omega arith; inside = omega arith }
 
 module _ (l : Layout) (laws : Lawful l) (base : Meaning) where
-  spread : (bs : List ℕ) (a : ℕ) (m : Meaning) → GoodTable (table_of l) m → ((s : ℕ) → walked l m s ≡ walked l base s) → a + length bs ≤ l.image_size → ((i : ℕ) → a ≤ i → i < a + length bs → (p : ℕ) × (walked l base i ≡ Ok p)) → Spread l base m (scattered l base a bs m)
+  spread : (bs : List ℕ) (a : ℕ) (m : Meaning) → GoodTable (table_of l) m → ((s : ℕ) → walked l m s ≡ walked l base s) → a + length bs ≤ l.image_size → ((i : ℕ) → a ≤ i → i < a + length bs → (p : ℕ) × (walked l base i ≡ Ok p)) → Spread l base a (length bs) m (scattered l base a bs m)
   unfolding scattered
   spread [] a m good same inside each = record { size = refl; cells = λ p out. refl; walks = λ s. refl; entries = λ k low. refl }
   spread (b ∷ bs) a m good same inside each =
@@ -179,10 +190,12 @@ module _ (l : Layout) (laws : Lawful l) (base : Meaning) where
       let part = one_byte l laws a (omega arith) in
       let alike = stored_alike l laws m good a p.0 (b ∷ []) part here in
       let rest = spread bs (suc a) n (good_alike l m n alike good) (λ s. alike.walks s ∙ same s) (omega arith) (λ i low high. each i (omega arith) (omega arith)) in
-      subst (λ r. Spread l base m (scattered l base (suc a) bs (put m (b ∷ []) r))) (sym p.1)
+      subst (λ r. Spread l base a (length (b ∷ bs)) m (scattered l base (suc a) bs (put m (b ∷ []) r))) (sym p.1)
       (record {
         size = rest.size ∙ alike.size;
-        cells = λ q out. rest.cells q out ∙ stored_outside m p.0 (b ∷ []) q (⊎_elim (λ low. inl low) (λ high. inr (next p.0 q high (λ e. out a (p.1 ∙ ap Ok (sym e))))) (cases_lt q p.0));
+        cells = λ q out.
+            rest.cells q (λ s low high. out s (omega arith) (omega arith))
+            ∙ stored_outside m p.0 (b ∷ []) q (⊎_elim (λ low. inl low) (λ high. inr (next p.0 q high (λ e. out a (omega arith) (omega arith) (p.1 ∙ ap Ok (sym e))))) (cases_lt q p.0));
         walks = λ s. rest.walks s ∙ alike.walks s;
         entries = λ k low. rest.entries k low ∙ entry_kept l laws m good a p.0 (b ∷ []) part here k low;
       }) where
@@ -200,7 +213,7 @@ module _ (l : Layout) (laws : Lawful l) (m : Meaning) (good : GoodTable (table_o
       λ k e low was. s.entries k low ∙ left.entries k e low was in
       record {
         size = s.size ∙ left.size;
-        cells = λ p one two. s.cells p (λ t e. one t (sym (left.walks t) ∙ e)) ∙ left.cells p two;
+        cells = λ p one two. s.cells p (λ t low high e. one (byte_there l m a (length bs) accepted t p low high (sym (left.walks t) ∙ e))) ∙ left.cells p two;
         table = λ k low. subst (SameRead (entry_read m (entry_address (table_of l) k))) (sym (s.entries k low)) (left_class l Write (pages_of l a (length bs)) m x left k low);
         walks = λ t. s.walks t ∙ left.walks t;
         referenced = referenced_law l laws m good (writing a bs) accepted Write (scattered l x a bs x) entries;

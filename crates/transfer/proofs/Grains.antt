@@ -10,13 +10,14 @@ use Rattle.memory.specs.Meaning.{Cell, byte, fault, Meaning}
 use Rattle.memory.specs.Calls.{cell_answer, first_fault, value, bytes, read_answer, delivered}
 use Rattle.memory.proofs.Runs.{check_run_ok}
 use Rattle.memory.proofs.Calls.{answer_inside, first_fault_at_once}
+use Rattle.memory.specs.Up.{cell_up}
 use Rattle.mapping.specs.Rules.{Layout}
 use Rattle.mapping.specs.Laws.{Lawful}
 use Rattle.page_table.specs.declared.entry.Entry.{Entry}
 use Rattle.page_table.specs.declared.tlb.Tlb.{Tlb}
 use Rattle.page_table.specs.Entry.{is_live}
 use Rattle.page_table.specs.Table.{table_of, entry_address, entry_read, Live, GoodTable}
-use Rattle.page_table.specs.Walk.{through, walked_from, walked, cell_up, cell_behind, viewed}
+use Rattle.page_table.specs.Walk.{through, walked_from, walked, cell_behind, viewed}
 use Rattle.page_table.specs.Ready.{Ready}
 use Rattle.transfer.specs.Parts.{Part}
 

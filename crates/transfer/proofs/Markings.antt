@@ -9,7 +9,7 @@ use Rattle.page_table.specs.Tlb.{Steady}
 use Rattle.page_table.specs.Walk.{walked, windowed}
 use Rattle.page_table.specs.Ready.{Holds, Ready}
 use Rattle.walk.specs.declared.spot.Spot.{Spot}
-use Rattle.walk.specs.declared.marks.Access.{Access}
+use Rattle.memory.specs.declared.access.Access.{Access}
 use Rattle.walk.specs.Marks.{marked, refreshed}
 use Rattle.transfer.specs.Scatter.{LivePages, marked_pages, refreshed_pages}
 use Rattle.transfer.proofs.Alikes.{good_alike, marked_alike, marked_window}

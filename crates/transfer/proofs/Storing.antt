@@ -8,10 +8,11 @@ use Rattle.memory.specs.Calls.{read_answer, first_fault, stored, written}
 use Rattle.memory.proofs.Overlays.{Inside, Outside, cases_run}
 use Rattle.memory.proofs.Calls.{is_stored, written_accepted, writes_as_reads}
 use Rattle.memory.proofs.Writes.{stored_inside, stored_outside}
+use Rattle.memory.specs.Up.{cell_up}
 use Rattle.mapping.specs.Rules.{Layout}
 use Rattle.mapping.specs.Laws.{Lawful}
 use Rattle.page_table.specs.Table.{table_of, entry_address, entry_read, frame_in, GoodTable}
-use Rattle.page_table.specs.Walk.{walked_from, walked, cell_up, cell_behind, viewed, windowed, through}
+use Rattle.page_table.specs.Walk.{walked_from, walked, cell_behind, viewed, windowed, through}
 use Rattle.walk.proofs.Marking.{same_entry}
 use Rattle.transfer.specs.Parts.{Part}
 use Rattle.transfer.specs.Scatter.{put}

@@ -13,13 +13,14 @@ use Rattle.page_table.specs.Entry.{SameButMarks}
 use Rattle.page_table.specs.Table.{table_of, entry_address, entry_read, frame_of, GoodTable}
 use Rattle.page_table.specs.Class.{SameRead, SameTable}
 use Rattle.page_table.specs.Walk.{walked}
-use Rattle.walk.specs.declared.marks.Access.{Access}
-use Rattle.walk.specs.declared.marks.Access.TheVariants.{Read, Write}
+use Rattle.memory.specs.declared.access.Access.{Access}
+use Rattle.memory.specs.declared.access.Access.TheVariants.{Read, Write}
 use Rattle.walk.specs.Lookup.{page_of, page_at}
 use Rattle.walk.specs.Marks.{top_after, marked_entry, marked}
 use Rattle.walk.proofs.Marking.{live_entry, marked_entry_is, marked_other}
 use Rattle.transfer.specs.Parts.{over_parts, and_then}
 use Rattle.transfer.specs.Scatter.{LivePages, marked_pages}
+use Rattle.transfer.specs.Effect.{MarksThere}
 use Rattle.transfer.proofs.Grains.{grain_follows}
 use Rattle.transfer.proofs.Alikes.{good_alike, marked_alike}
 use Rattle.transfer.proofs.Markings.{live_after}
@@ -123,7 +124,7 @@ marked_cell t access m j p out = stored_outside m (entry_address t j) (top_after
 -- what the marks of a list of pages leave
 pub record Left (l : Layout) (access : Access) (ks : List ℕ) (m n : Meaning) : Type 0 where
   pub size : n.size ≡ m.size
-  pub cells : (p : ℕ) → ((k : ℕ) → k < (table_of l).entries → p ≡ entry_address (table_of l) k → ⊥) → n.cell p ≡ m.cell p
+  pub cells : (p : ℕ) → (MarksThere l m p → ⊥) → n.cell p ≡ m.cell p
   pub walks : (s : ℕ) → walked l n s ≡ walked l m s
   pub frames : (k : ℕ) → k < (table_of l).entries → frame_of (table_of l) n k ≡ frame_of (table_of l) m k
   pub entries : (k : ℕ) (e : Entry) → k < (table_of l).entries → entry_read m (entry_address (table_of l) k) ≡ Ok e → entry_read n (entry_address (table_of l) k) ≡ Ok (cond (has k ks) (marked_entry access e) e)
@@ -141,7 +142,13 @@ module _ (l : Layout) (laws : Lawful l) (access : Access) where
       let rest = marks_left js n (good_alike l m n alike good) (live_after l m n alike.frames js live.2) in
       record {
         size = rest.size ∙ alike.size;
-        cells = λ p out. rest.cells p out ∙ marked_cell t access m j p (out j live.0);
+        cells = λ p out.
+            let first : p ≡ entry_address t j → ⊥ = λ at. out (record { page = j; entry = x.0; low = live.0; address = at; read = x.1 }) in
+            let later : MarksThere l n p → ⊥ = λ marks. ⊎_elim
+            (λ same. first (marks.address ∙ ap (entry_address t) same))
+            (λ other. out (record { page = marks.page; entry = marks.entry; low = marks.low; address = marks.address; read = sym (marked_other t access j m x.0 x.1 marks.page other) ∙ marks.read }))
+            (cases_eq marks.page j) in
+            rest.cells p later ∙ marked_cell t access m j p first;
         walks = λ s. rest.walks s ∙ alike.walks s;
         frames = λ k low. rest.frames k low ∙ alike.frames k low;
         entries = λ k e low is. ⊎_elim

@@ -13,8 +13,8 @@ use Rattle.mapping.specs.Rules.{Layout}
 use Rattle.page_table.specs.declared.tlb.Tlb.{Tlb}
 use Rattle.page_table.specs.Table.{table_of}
 use Rattle.page_table.specs.Walk.{windowed}
-use Rattle.walk.specs.declared.marks.Access.{Access}
-use Rattle.walk.specs.declared.marks.Access.TheVariants.{Read, Write}
+use Rattle.memory.specs.declared.access.Access.{Access}
+use Rattle.memory.specs.declared.access.Access.TheVariants.{Read, Write}
 use Rattle.transfer.specs.Parts.{pages_of}
 use Rattle.transfer.specs.Lookups.{lookups_of}
 use Rattle.transfer.specs.Scatter.{marked_pages, refreshed_pages, scattered}

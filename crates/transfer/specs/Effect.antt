@@ -1,26 +1,18 @@
 -- What a call through an open window changes in the memory below, byte by byte and mark by mark. Assumes nothing.
--- first_cell c, cells_of c: the window address and the length of the run of the call c
 -- Accepted l m c: the call c is accepted by the window over the memory m
 -- Touches l c k: one of the bytes of c lies in the page k of the data
--- Writes c: c is a write
+-- StandsThere l m p: a byte of the window stands at the address p of the memory m
+-- MarksThere l m p: the marks of an entry do
 -- Effect l m n c: all that the call c changes from m before to n after
-use Rattle.std.specs.Prelude.{◌≡◌, ℕ, ◌+◌, ◌/◌, ◌<◌, ◌≤◌, true, ◌⊎◌, length, Some, Ok}
-use Rattle.memory.specs.Meaning.{Meaning}
-use Rattle.memory.specs.Reach.{Call, reading, writing}
+use Rattle.std.specs.Prelude.{◌≡◌, ℕ, ◌+◌, ◌/◌, ◌<◌, ◌≤◌, true, ◌⊎◌, Some, Ok}
+use Rattle.memory.specs.Meaning.{byte, Meaning}
+use Rattle.memory.specs.Reach.{Call, first_cell, cells_of, Writes}
 use Rattle.memory.specs.Calls.{read_answer}
 use Rattle.mapping.specs.Rules.{Layout}
 use Rattle.page_table.specs.declared.entry.Entry.{Entry}
 use Rattle.page_table.specs.Table.{table_of, entry_address, entry_read}
 use Rattle.page_table.specs.Walk.{walked, windowed}
 use Rattle.page_table.specs.Class.{SameTable}
-
-abbrev pub first_cell : Call → ℕ
-first_cell (reading a b) = a
-first_cell (writing a bs) = a
-
-abbrev pub cells_of : Call → ℕ
-cells_of (reading a b) = length b
-cells_of (writing a bs) = length bs
 
 abbrev pub Accepted : Layout → Meaning → Call → Type 0
 Accepted l m c = read_answer (windowed l m) (first_cell c) (cells_of c) ≡ Ok tt
@@ -33,14 +25,25 @@ pub record Touches (l : Layout) (c : Call) (k : ℕ) : Type 0 where
   pub at : l.place cell ≡ Some place
   pub page : place / 4096 ≡ k
 
-abbrev pub Writes : Call → Type 0
-Writes (reading a b) = ⊥
-Writes (writing a bs) = Unit {0}
+-- a cell of the window stands in the byte at p below
+pub record StandsThere (l : Layout) (m : Meaning) (p : ℕ) : Type 0 where
+  pub cell : ℕ
+  pub value : ℕ
+  pub stands : walked l m cell ≡ Ok p
+  pub is_byte : m.cell p ≡ byte value
+
+-- the marks of an entry stand in the byte at p below: it is the first of the four
+pub record MarksThere (l : Layout) (m : Meaning) (p : ℕ) : Type 0 where
+  pub page : ℕ
+  pub entry : Entry
+  pub low : page < (table_of l).entries
+  pub address : p ≡ entry_address (table_of l) page
+  pub read : entry_read m (entry_address (table_of l) page) ≡ Ok entry
 
 pub record Effect (l : Layout) (m n : Meaning) (c : Call) : Type 0 where
   pub size : n.size ≡ m.size
-  -- no cell changes but where a cell of the window stands, and the first byte of an entry
-  pub cells : (p : ℕ) → ((s : ℕ) → walked l m s ≡ Ok p → ⊥) → ((k : ℕ) → k < (table_of l).entries → p ≡ entry_address (table_of l) k → ⊥) → n.cell p ≡ m.cell p
+  -- no cell changes but a byte where a cell of the window stands, and the first byte of an entry that can be read
+  pub cells : (p : ℕ) → (StandsThere l m p → ⊥) → (MarksThere l m p → ⊥) → n.cell p ≡ m.cell p
   -- of an entry only the marks
   pub table : SameTable (table_of l) m n
   pub walks : (s : ℕ) → walked l n s ≡ walked l m s

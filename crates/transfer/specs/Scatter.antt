@@ -14,7 +14,7 @@ use Rattle.page_table.specs.declared.table.Table.{Table}
 use Rattle.page_table.specs.declared.tlb.Tlb.{Tlb}
 use Rattle.page_table.specs.Table.{table_of, entry_address, entry_read, frame_of, GoodTable}
 use Rattle.page_table.specs.Walk.{walked, windowed}
-use Rattle.walk.specs.declared.marks.Access.{Access}
+use Rattle.memory.specs.declared.access.Access.{Access}
 use Rattle.walk.specs.Marks.{marked, refreshed}
 
 unfoldable pub marked_pages : Table → Access → List ℕ → Meaning → Meaning

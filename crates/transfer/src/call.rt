@@ -5,16 +5,16 @@ ghost use Rattle.memory.specs.Calls.{read_answer, write_answer, delivered, writt
 ghost use Rattle.memory.specs.Reach.{Reached};
 ghost use Rattle.page_table.specs.Walk.{windowed};
 ghost use Rattle.page_table.specs.Ready.{Ready};
-ghost use Rattle.walk.specs.declared.marks.Access.TheVariants.{Read, Write};
+ghost use Rattle.memory.specs.declared.access.Access.TheVariants.{Read, Write};
 ghost use Rattle.transfer.specs.Call.{below_after_read, below_after_write, tlb_after};
 
 use crate::gather::{PARTS, gather};
 use crate::scatter::{mark_pages, scatter};
 use mapping::{Mapping, MemoryAddress, WindowAddress};
-use memory::{Fault, Memory};
+use memory::{Access, Fault, Memory};
 use page_table::{Table, Tlb};
 use units::LINE;
-use walk::{Access, Spot};
+use walk::Spot;
 
 // Gathers the run into the buffer, or refuses and leaves it. The marks are set once the whole run is accepted.
 pub fn read_run<P: Mapping, M: Memory>(

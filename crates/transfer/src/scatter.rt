@@ -10,9 +10,9 @@ ghost use Rattle.transfer.specs.Scatter.{LivePages, marked_pages, refreshed_page
 
 use crate::gather::part_size;
 use mapping::{Mapping, MemoryAddress, WindowAddress};
-use memory::Memory;
+use memory::{Access, Memory};
 use page_table::{Table, Tlb};
-use walk::{Access, Spot, mark};
+use walk::{Spot, mark};
 
 // Sets the marks of the pages in which the parts stand.
 pub(crate) fn mark_pages<P: Mapping, M: Memory>(

@@ -21,8 +21,8 @@ use Rattle.page_table.specs.Table.{entry_address, entry_at, entry_read, frame_in
 use Rattle.page_table.specs.Tlb.{held_entry}
 use Rattle.page_table.specs.Ready.{Holds}
 use Rattle.page_table.proofs.Tlbs.{held_kept, none_some}
-use Rattle.walk.specs.declared.marks.Access.{Access}
-use Rattle.walk.specs.declared.marks.Access.TheVariants.{Read, Write}
+use Rattle.memory.specs.declared.access.Access.{Access}
+use Rattle.memory.specs.declared.access.Access.TheVariants.{Read, Write}
 use Rattle.walk.specs.Marks.{top_after, marked_entry, is_marked, held_marked, marked_in, marked_at, marked, refreshed_by, refreshed}
 
 -- a read of one accepted byte brings it, and a write puts one in its place

@@ -14,8 +14,8 @@ use Rattle.page_table.specs.declared.tlb.Tlb.{Tlb}
 use Rattle.page_table.specs.Entry.{top_after_read, top_after_write}
 use Rattle.page_table.specs.Table.{entry_address}
 use Rattle.page_table.specs.Tlb.{held_entry, kept}
-use Rattle.walk.specs.declared.marks.Access.{Access}
-use Rattle.walk.specs.declared.marks.Access.TheVariants.{Read, Write}
+use Rattle.memory.specs.declared.access.Access.{Access}
+use Rattle.memory.specs.declared.access.Access.TheVariants.{Read, Write}
 
 abbrev pub top_after : Access → ℕ → ℕ
 top_after Read b = top_after_read b

@@ -5,5 +5,5 @@ mod lookup;
 mod marks;
 mod spot;
 
-pub use marks::{Access, mark};
+pub use marks::mark;
 pub use spot::{Spot, walk};

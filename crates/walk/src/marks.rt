@@ -9,20 +9,11 @@ ghost use Rattle.page_table.specs.Ready.{Holds};
 ghost use Rattle.walk.specs.Marks.{top_after, marked_entry, is_marked, held_marked, marked_at, marked, refreshed};
 
 use mapping::MemoryAddress;
-use memory::Memory;
+use memory::{Access, Memory};
 use page_table::{Entry, Table, Tlb};
 
-// What is done to the bytes of a page.
-#[derive(Clone, Copy, PartialEq, Eq, Debug)]
-pub enum Access {
-    // sets the referenced bit
-    Read,
-    // sets the referenced and the modified bit
-    Write,
-}
-
-// Sets the marks of a page whose entry is live, in the table and in what is held. Where it is held with its marks set, the table is
-// left alone.
+// Sets the marks of a page whose entry is live, in the table and in what is held: the referenced bit, and for a write the modified
+// bit too. Where it is held with its marks set, the table is left alone.
 #[tactic(auto, using(crate::proofs::Marking::top_accepted, crate::proofs::Marking::marked_is, crate::proofs::Marking::marked_already, crate::proofs::Marking::holds_marked, crate::proofs::Marking::holds_already, memory::proofs::Reaches::reached_none))]
 pub fn mark<M: Memory>(below: &mut M, tlb: &mut Tlb, table: Table, page: u32, access: Access)
     requires coherent { M.Memory.coherent below.old }

@@ -11,7 +11,7 @@ use Rattle.mapping.specs.Rules.{Layout}
 use Rattle.page_table.specs.declared.tlb.Tlb.{Tlb}
 use Rattle.page_table.specs.Ready.{Ready}
 use Rattle.page_table.specs.Walk.{windowed, shown}
-use Rattle.walk.specs.declared.marks.Access.{Access}
+use Rattle.memory.specs.declared.access.Access.{Access}
 use Rattle.transfer.specs.Parts.{pages_of}
 use Rattle.transfer.specs.Lookups.{lookups_of}
 use Rattle.transfer.specs.Scatter.{refreshed_pages}

@@ -8,11 +8,12 @@ use Rattle.memory.specs.declared.fault.Fault.{Fault}
 use Rattle.memory.specs.Fault.{cause_number, here, passed_up}
 use Rattle.memory.specs.Meaning.{Cell, byte, fault, Meaning, InRange, FaultInRange, WellFormed}
 use Rattle.memory.specs.Calls.{cell_answer, first_fault}
+use Rattle.memory.specs.Up.{cell_up_in_range}
 use Rattle.mapping.specs.Rules.{Layout}
 use Rattle.page_table.specs.declared.entry.Entry.{Entry}
 use Rattle.page_table.specs.declared.tlb.Tlb.{Tlb}
 use Rattle.page_table.specs.Table.{table_of, entry_address, entry_at, entry_read, frame_in, Live}
-use Rattle.page_table.specs.Walk.{through, walked_from, cell_up, cell_behind, viewed, windowed, shown}
+use Rattle.page_table.specs.Walk.{through, walked_from, cell_behind, viewed, windowed, shown}
 use Rattle.page_table.specs.Ready.{Ready}
 use Rattle.walk.proofs.Walks.{table_inside}
 
@@ -29,15 +30,8 @@ mapped_err : {A B : Type 0} (x : A → B) (r : Result A Fault) (f : Fault) → r
 mapped_err x (Ok a) f e = absurd cc
 mapped_err x (Err d) f e = (d, refl, cc)
 
-up_in_range : (f : Fault) → FaultInRange f → FaultInRange (passed_up f)
-up_in_range f s = record { cause_low = s.cause_low; cause_high = s.cause_high; depth = omega arith; place = s.place }
-
 here_in_range : (c : Cause) (s : ℕ) → 3 ≤ cause_number c → cause_number c ≤ 255 → s < 2 ^ 64 → FaultInRange (here c s)
 here_in_range c s low high small = record { cause_low = low; cause_high = high; depth = omega arith; place = small }
-
-cell_up_in_range : (c : Cell) → InRange c → InRange (cell_up c)
-cell_up_in_range (byte b) s = s
-cell_up_in_range (fault f) s = up_in_range f s
 
 module _ (l : Layout) (m : Meaning) (h : Tlb) (ready : Ready l m h) (s : ℕ) (low : s < l.image_size) where
   small : s < 2 ^ 64
@@ -62,7 +56,7 @@ module _ (l : Layout) (m : Meaning) (h : Tlb) (ready : Ready l m h) (s : ℕ) (l
       let c = fault_of m.cell a 4 r.0 r.1 in
       let inside : c.0 < m.size = omega (arith, table_inside (table_of l) m ready.table k few, c.1, c.2) in
       let range : InRange (m.cell c.0) = ready.formed.cells c.0 inside in
-      subst FaultInRange (sym r.2) (up_in_range r.0 (subst InRange c.3 range))
+      subst FaultInRange (sym r.2) (cell_up_in_range (fault r.0) (subst InRange c.3 range))
 
   reached : (p : Option ℕ) → l.place s ≡ p → InRange (cell_behind m (walked_from (table_of l) m s p))
   reached None e = here_in_range Blank s (lit≤ tt) (lit≤ tt) small

@@ -3,7 +3,7 @@ use Rattle.std.proofs.Common.{◌≡◌, ℕ, ◌-◌, ◌≤◌, map, length, t
 use Rattle.std.specs.Result.{result_map_both}
 use Rattle.memory.specs.Calls.{read_answer, bytes}
 use Rattle.page_table.specs.Walk.{windowed, viewed}
-use Rattle.walk.specs.declared.marks.Access.TheVariants.{Read}
+use Rattle.memory.specs.declared.access.Access.TheVariants.{Read}
 use Rattle.transfer.specs.Parts.{pages_of, Spotted}
 use Rattle.transfer.specs.Lookups.{lookups_of}
 use Rattle.transfer.proofs.Callings.{front_length, taken_fits, all_spots, gathered_answer, read_unchanged, tlb_refused, read_accepted, tlb_accepted, delivered_refused, delivered_accepted}

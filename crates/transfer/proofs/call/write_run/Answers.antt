@@ -5,7 +5,7 @@ use Rattle.memory.specs.Calls.{read_answer}
 use Rattle.memory.proofs.Calls.{writes_as_reads}
 use Rattle.memory.proofs.Reaches.{reached_more}
 use Rattle.page_table.specs.Walk.{walked, windowed}
-use Rattle.walk.specs.declared.marks.Access.TheVariants.{Write}
+use Rattle.memory.specs.declared.access.Access.TheVariants.{Write}
 use Rattle.transfer.specs.Parts.{pages_of, Spotted}
 use Rattle.transfer.specs.Lookups.{lookups_of}
 use Rattle.transfer.proofs.Callings.{front_length, taken_fits, all_spots, gathered_answer, tlb_refused, tlb_accepted, spotted_after, write_refused, window_refused, write_accepted, window_accepted}
