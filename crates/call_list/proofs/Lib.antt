@@ -1,0 +1,4 @@
+pub mod Models
+pub mod Laws
+pub mod Follows
+pub mod Playing

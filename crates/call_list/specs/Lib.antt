@@ -1,0 +1,4 @@
+pub mod Record
+pub mod Model
+pub mod Law
+pub mod Follow
