@@ -26,6 +26,12 @@ module _ {S : Type 0} (meaning : S → Meaning) (coherent : S → Type 0) (R : S
   linked_coherent s t [] c e = subst coherent e c
   linked_coherent s t (d ∷ cs) c l = linked_coherent l.0 t cs l.1.kept l.2
 
+  -- what no call changes, a list does not
+  pub linked_keeps : {X : Type 0} (f : S → X) → ((s t : S) (c : Call) → R s c t → f t ≡ f s) → (s t : S) (cs : List Call) → Linked (Step meaning coherent R) s cs t → f t ≡ f s
+  unfolding Linked
+  linked_keeps f kept s t [] e = ap f (sym e)
+  linked_keeps f kept s t (c ∷ cs) l = linked_keeps f kept l.0 t cs l.2 ∙ kept s l.0 c l.1.step
+
   pub between : (s t : S) (cs : List Call) → coherent s → Linked (Step meaning coherent R) s cs t → (k : ℕ) → Between meaning coherent R s cs k t
   between s t cs c l k =
       let u = linked_at (Step meaning coherent R) s t cs k l in

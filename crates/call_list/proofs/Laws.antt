@@ -5,7 +5,7 @@ use Rattle.memory.specs.declared.access.Access.TheVariants.{Read, Write}
 use Rattle.memory.specs.declared.fault.Fault.{Fault}
 use Rattle.memory.specs.Meaning.{Cell, byte, Meaning}
 use Rattle.memory.specs.Reach.{Call, reading, writing, after_calls}
-use Rattle.memory.specs.Calls.{read_answer, write_answer, bytes, delivered, stored}
+use Rattle.memory.specs.Calls.{read_answer, write_answer, bytes, delivered, stored, written}
 use Rattle.memory.proofs.Calls.{cell_answer_byte, get_or_bytes, writes_as_reads, written_accepted, written_refused}
 use Rattle.memory.proofs.Overlays.{cases_run}
 use Rattle.memory.proofs.Writes.{stored_inside, stored_outside, same_size, stored_answer, accepted_each}
@@ -43,9 +43,13 @@ cases_call m c = by c.access refl where
   by Read sort = inr (ap (λ x. cells_after m (call_at x c.address c.buffer)) sort, λ w ok. not_read (sym sort ∙ w))
   by Write sort = as_write (write_answer m c.address (length c.buffer)) refl sort
 
-answer_after : (m : Meaning) (c : Recorded) (a n : ℕ) → read_answer (cells_after m (call_of c)) a n ≡ read_answer m a n
-answer_after m c a n =
-    ⊎_elim (λ s. ap (λ x. read_answer x a n) s.3 ∙ stored_answer m c.address c.buffer s.2 a n) (λ l. ap (λ x. read_answer x a n) l.0) (cases_call m c)
+-- no call changes which runs are refused
+pub answers_kept : (m : Meaning) (c : Call) (a n : ℕ) → read_answer (cells_after m c) a n ≡ read_answer m a n
+answers_kept m (reading b bs) a n = refl
+answers_kept m (writing b bs) a n = by (write_answer m b (length bs)) refl where
+  by : (r : Result (Unit {0}) Fault) → write_answer m b (length bs) ≡ r → read_answer (written m b bs) a n ≡ read_answer m a n
+  by (Ok u) is = ap (λ x. read_answer x a n) (written_accepted m b bs is) ∙ stored_answer m b bs is a n
+  by (Err f) is = ap (λ x. read_answer x a n) (written_refused m b bs f is)
 
 size_after : (m : Meaning) (c : Recorded) → (cells_after m (call_of c)).size ≡ m.size
 size_after m c =
@@ -60,7 +64,7 @@ call_answer_alike m n same (writing a bs) = writes_as_reads m a (length bs) ∙ 
 pub model_answer : (m : Meaning) (cs : List Recorded) (a n : ℕ) → read_answer (model m (calls_of cs)) a n ≡ read_answer m a n
 unfolding after_calls
 model_answer m [] a n = refl
-model_answer m (c ∷ cs) a n = model_answer (cells_after m (call_of c)) cs a n ∙ answer_after m c a n
+model_answer m (c ∷ cs) a n = model_answer (cells_after m (call_of c)) cs a n ∙ answers_kept m (call_of c) a n
 
 pub model_call_answer : (m : Meaning) (cs : List Recorded) (c : Call) → call_answer (model m (calls_of cs)) c ≡ call_answer m c
 model_call_answer m cs c = call_answer_alike (model m (calls_of cs)) m (model_answer m cs) c
@@ -90,10 +94,10 @@ module _ (m : Meaning) (c : Recorded) (cs : List Recorded) (i : ℕ) where
   n = cells_after m (call_of c)
 
   back : (a k : ℕ) → read_answer (cells_after m (call_of c)) a k ≡ read_answer m a k
-  back = answer_after m c
+  back = answers_kept m (call_of c)
 
   forth : (a k : ℕ) → read_answer m a k ≡ read_answer (cells_after m (call_of c)) a k
-  forth a k = sym (answer_after m c a k)
+  forth a k = sym (answers_kept m (call_of c) a k)
 
   past : (k : ℕ) → ((j : ℕ) → k < j → j < length cs → Stores (cells_after m (call_of c)) (at cs j) i → ⊥) → (j : ℕ) → suc k < j → j < length (c ∷ cs) → Stores m (at (c ∷ cs) j) i → ⊥
   past k none zero low high h = omega arith

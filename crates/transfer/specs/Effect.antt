@@ -4,7 +4,7 @@
 -- StandsThere l m p: a byte of the window stands at the address p of the memory m
 -- MarksThere l m p: the marks of an entry do
 -- Effect l m n c: all that the call c changes from m before to n after
-use Rattle.std.specs.Prelude.{◌≡◌, ℕ, ◌+◌, ◌/◌, ◌<◌, ◌≤◌, true, ◌⊎◌, Some, Ok}
+use Rattle.std.specs.Prelude.{◌≡◌, ℕ, ◌+◌, ◌/◌, ◌<◌, ◌≤◌, true, ◌⊎◌, Decides, Some, Ok}
 use Rattle.memory.specs.Meaning.{byte, Meaning}
 use Rattle.memory.specs.Reach.{Call, first_cell, cells_of, Writes}
 use Rattle.memory.specs.Calls.{read_answer}
@@ -48,6 +48,6 @@ pub record Effect (l : Layout) (m n : Meaning) (c : Call) : Type 0 where
   pub table : SameTable (table_of l) m n
   pub walks : (s : ℕ) → walked l n s ≡ walked l m s
   pub referenced : (k : ℕ) (e d : Entry) → k < (table_of l).entries → entry_read m (entry_address (table_of l) k) ≡ Ok e → entry_read n (entry_address (table_of l) k) ≡ Ok d
-      → (d.referenced ≡ true → (e.referenced ≡ true) ⊎ (Accepted l m c × Touches l c k)) × ((e.referenced ≡ true) ⊎ (Accepted l m c × Touches l c k) → d.referenced ≡ true)
+      → Decides d.referenced ((e.referenced ≡ true) ⊎ (Accepted l m c × Touches l c k))
   pub modified : (k : ℕ) (e d : Entry) → k < (table_of l).entries → entry_read m (entry_address (table_of l) k) ≡ Ok e → entry_read n (entry_address (table_of l) k) ≡ Ok d
-      → (d.modified ≡ true → (e.modified ≡ true) ⊎ (Accepted l m c × Writes c × Touches l c k)) × ((e.modified ≡ true) ⊎ (Accepted l m c × Writes c × Touches l c k) → d.modified ≡ true)
+      → Decides d.modified ((e.modified ≡ true) ⊎ (Accepted l m c × Writes c × Touches l c k))

@@ -1,0 +1,2 @@
+pub mod Effects
+pub mod Playing
