@@ -8,8 +8,9 @@ use Rattle.memory.proofs.Reaches.{linked_none, linked_one, linked_append}
 use Rattle.call_list.specs.declared.record.CallRecord.{CallRecord}
 use Rattle.call_list.specs.Record.{Recorded, recorded, call_of, calls_of}
 use Rattle.call_list.specs.Model.{cells_after, made, played, model}
-use Rattle.call_list.specs.Follow.{Step, Between}
+use Rattle.call_list.specs.Follow.{Step}
 use Rattle.call_list.specs.Law.{ListLaw}
+use Rattle.call_list.specs.Played.{ListPlayed}
 use Rattle.call_list.proofs.Models.{model_push, played_push}
 use Rattle.call_list.proofs.Laws.{list_law}
 use Rattle.call_list.proofs.Follows.{between}
@@ -22,12 +23,6 @@ pub record Playing {S : Type 0} (meaning : S → Meaning) (coherent : S → Type
   pub cells : meaning t ≡ model (meaning s) (calls_of (take i old))
   pub kept : coherent t
   pub linked : Linked (Step meaning coherent R) s (calls_of (take i old)) t
-
-pub record Played {S : Type 0} (meaning : S → Meaning) (coherent : S → Type 0) (R : S → Call → S → Type 0) (s : S) (old new : List Recorded) (t : S) : Type 0 where
-  pub calls : new ≡ played (meaning s) old
-  pub cells : meaning t ≡ model (meaning s) (calls_of old)
-  pub kept : coherent t
-  pub linked : Linked (Step meaning coherent R) s (calls_of old) t
 
 module _ {S : Type 0} (meaning : S → Meaning) (coherent : S → Type 0) (R : S → Call → S → Type 0) (s : S) (old : List Recorded) where
   pub playing_none : coherent s → Playing meaning coherent R s old old 0 s
@@ -66,17 +61,6 @@ module _ {S : Type 0} (meaning : S → Meaning) (coherent : S → Type 0) (R : S
           (linked_append (Step meaning coherent R) s t u (calls_of (take i old)) (call_of (get_or new i d) ∷ []) so_far.linked (linked_one (Step meaning coherent R) t u (call_of (get_or new i d)) step));
     }
 
-  -- all calls are made
-  pub playing_all : (new : List Recorded) (i : ℕ) (t : S) → Playing meaning coherent R s old new i t → length new ≤ i → Played meaning coherent R s old new t
-  playing_all new i t so_far all =
-      let whole : take i old ≡ old = take_all i old (omega (arith, so_far.long)) in
-      record {
-        calls = sym (take_all i new all) ∙ so_far.made_so_far ∙ ap (played (meaning s)) whole;
-        cells = so_far.cells ∙ ap (λ xs. model (meaning s) (calls_of xs)) whole;
-        kept = so_far.kept;
-        linked = subst (λ xs. Linked (Step meaning coherent R) s (calls_of xs) t) whole so_far.linked;
-      }
-
   -- the same by the records of a caller's list
   pub playing_next : (cs : List CallRecord) (i : ℕ) (t : S) → Playing meaning coherent R s old (map recorded cs) i t → (c : CallRecord) → i < length cs → c ≡ get_or cs i c → (x : CallRecord) (u : S) → recorded x ≡ made (meaning t) (recorded c) → Step meaning coherent R t (call_of (recorded c)) u → Playing meaning coherent R s old (map recorded (set cs i x)) (i + 1) u
   playing_next cs i t so_far c low item x u is step =
@@ -87,12 +71,19 @@ module _ {S : Type 0} (meaning : S → Meaning) (coherent : S → Type 0) (R : S
       (is ∙ ap (made (meaning t)) (sym here))
       (subst (λ y. Step meaning coherent R t (call_of y) u) (sym here) step))
 
-  pub law_after : (cs : List CallRecord) (i : ℕ) (t : S) → Playing meaning coherent R s old (map recorded cs) i t → length cs ≤ i → ListLaw (meaning s) old (map recorded cs) (meaning t)
-  law_after cs i t so_far all =
-      let end = playing_all (map recorded cs) i t so_far (omega (arith, length-map cs recorded)) in
-      subst (λ m. ListLaw (meaning s) old (map recorded cs) m) (sym end.cells)
-      (subst (λ ds. ListLaw (meaning s) old ds (model (meaning s) (calls_of old))) (sym end.calls) (list_law (meaning s) old))
-
-  pub between_calls : (cs : List CallRecord) (i : ℕ) (t : S) → Playing meaning coherent R s old (map recorded cs) i t → length cs ≤ i → coherent s → (k : ℕ) → Between meaning coherent R s (calls_of old) k t
-  between_calls cs i t so_far all c k =
-      between meaning coherent R s t (calls_of old) c (playing_all (map recorded cs) i t so_far (omega (arith, length-map cs recorded))).linked k
+  -- all calls are made
+  pub list_played : (cs : List CallRecord) (i : ℕ) (t : S) → Playing meaning coherent R s old (map recorded cs) i t → length cs ≤ i → coherent s → ListPlayed meaning coherent R s t old (map recorded cs)
+  list_played cs i t so_far all c =
+      let new : List Recorded = map recorded cs in
+      let whole : take i old ≡ old = take_all i old (omega (arith, so_far.long, length-map cs recorded)) in
+      let calls : new ≡ played (meaning s) old = sym (take_all i new (omega (arith, length-map cs recorded))) ∙ so_far.made_so_far ∙ ap (played (meaning s)) whole in
+      let cells : meaning t ≡ model (meaning s) (calls_of old) = so_far.cells ∙ ap (λ xs. model (meaning s) (calls_of xs)) whole in
+      let linked : Linked (Step meaning coherent R) s (calls_of old) t = subst (λ xs. Linked (Step meaning coherent R) s (calls_of xs) t) whole so_far.linked in
+      record {
+        calls = calls;
+        every = λ k low. between meaning coherent R s t (calls_of old) c linked k;
+        cells = cells;
+        law = subst (ListLaw (meaning s) old new) (sym cells) (subst (λ ds. ListLaw (meaning s) old ds (model (meaning s) (calls_of old))) (sym calls) (list_law (meaning s) old));
+        linked = linked;
+        coherent_after = so_far.kept;
+      }

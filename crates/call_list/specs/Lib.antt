@@ -2,3 +2,4 @@ pub mod Record
 pub mod Model
 pub mod Law
 pub mod Follow
+pub mod Played

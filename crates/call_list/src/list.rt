@@ -3,22 +3,17 @@ ghost use Rattle.std.specs.Prelude.{◌≡◌, ℕ, ◌≤◌, length, map};
 ghost use Rattle.memory.specs.Reach.{Linked};
 ghost use Rattle.call_list.specs.Record.{recorded, call_at, call_of, calls_of};
 ghost use Rattle.call_list.specs.Model.{call_answer, buffer_after, cells_after, made, played, model};
-ghost use Rattle.call_list.specs.Law.{ListLaw};
-ghost use Rattle.call_list.specs.Follow.{Step, Between};
+ghost use Rattle.call_list.specs.Follow.{Step};
+ghost use Rattle.call_list.specs.Played.{ListPlayed};
 
 use crate::record::CallRecord;
 use memory::{Access, Fault, Memory};
 
 // Makes the calls in their order, and leaves in each its answer and its buffer.
-#[tactic(auto, using(crate::proofs::Playing::law_after, crate::proofs::Playing::between_calls), unfolding(crate::specs::Model::played, memory::specs::Reach::after_calls, memory::specs::Reach::Linked))]
+#[tactic(auto, using(crate::proofs::Playing::list_played), unfolding(crate::specs::Model::played, memory::specs::Reach::after_calls, memory::specs::Reach::Linked))]
 pub fn play<M: Memory>(memory: &mut M, calls: &mut [CallRecord])
     requires { M.Memory.coherent memory.old }
-    ensures calls { map recorded calls.new ≡ played (M.Memory.meaning memory.old) (map recorded calls.old) }
-    ensures cells { M.Memory.meaning memory.new ≡ model (M.Memory.meaning memory.old) (calls_of (map recorded calls.old)) }
-    ensures law { ListLaw (M.Memory.meaning memory.old) (map recorded calls.old) (map recorded calls.new) (M.Memory.meaning memory.new) }
-    ensures linked { Linked (Step M.Memory.meaning M.Memory.coherent M.Memory.step) memory.old (calls_of (map recorded calls.old)) memory.new }
-    ensures every { (k : ℕ) → k ≤ length calls.old → Between M.Memory.meaning M.Memory.coherent M.Memory.step memory.old (calls_of (map recorded calls.old)) k memory.new }
-    ensures coherent { M.Memory.coherent memory.new }
+    ensures { ListPlayed M.Memory.meaning M.Memory.coherent M.Memory.step memory.old memory.new (map recorded calls.old) (map recorded calls.new) }
 {
     for call in calls.iter_mut() {
         make(memory, call);

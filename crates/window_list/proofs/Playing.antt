@@ -1,5 +1,6 @@
 -- What a list of calls on a window comes to, by the states it goes through. Assumes nothing.
-use Rattle.std.proofs.Common.{◌≡◌, ℕ, ◌≤◌, Bool, true, false, cond, List, [], ◌∷◌, length, take, drop, refl, sym, ap, ◌∙◌, subst}
+use Rattle.std.proofs.Common.{◌≡◌, ℕ, ◌≤◌, Bool, true, false, cond, List, [], ◌∷◌, map, is_ok, length, take, drop, refl, sym, ap, ◌∙◌, subst, arith}
+use Rattle.std.proofs.lemmas.List.{length-map}
 use Rattle.memory.specs.Meaning.{Meaning}
 use Rattle.memory.specs.Reach.{Call, Linked, Reached, after_calls}
 use Rattle.memory.specs.Calls.{read_answer}
@@ -8,14 +9,18 @@ use Rattle.mapping.specs.Rules.{Layout}
 use Rattle.page_table.specs.declared.tlb.Tlb.{Tlb}
 use Rattle.page_table.specs.Walk.{windowed, shown}
 use Rattle.transfer.specs.Call.{below_called, tlb_called}
-use Rattle.call_list.specs.Record.{Recorded, calls_of}
+use Rattle.call_list.specs.declared.record.CallRecord.{CallRecord}
+use Rattle.call_list.specs.Record.{Recorded, recorded, calls_of}
 use Rattle.call_list.specs.Model.{cells_after, played, model}
 use Rattle.call_list.specs.Follow.{Step, Between}
 use Rattle.call_list.specs.Law.{ListLaw}
+use Rattle.call_list.specs.Played.{ListPlayed}
 use Rattle.call_list.proofs.Laws.{answers_kept}
-use Rattle.window.specs.State.{Called}
+use Rattle.call_list.proofs.Follows.{linked_keeps}
+use Rattle.window.specs.declared.window.Window.{Window}
+use Rattle.window.specs.State.{Standing, Called}
 use Rattle.window_list.specs.Effect.{ListEffect}
-use Rattle.window_list.specs.Played.{Behind, call_behind, behind_after, StateAfter, WindowPlayed}
+use Rattle.window_list.specs.Played.{Behind, call_behind, behind_after, StateAfter, PlayedThrough, WindowPlayed}
 use Rattle.window_list.proofs.Effects.{effect_none, effect_more}
 
 both_or_neither : (is_open : Bool) (m n : Meaning) (h i : Tlb) → ◌≡◌ {A = Behind} (record { cells = cond is_open n m; tlb = cond is_open i h }) (cond is_open (record { cells = n; tlb = i }) (record { cells = m; tlb = h }))
@@ -98,17 +103,38 @@ module _ {W S : Type 0} (meaning : S → Meaning) (R : S → Call → S → Type
         after = (passed b.state w (drop k cs) b.after).reached;
       }
 
-  module _ (v w : W) (cs ds : List Recorded) (linked : Linked (Step Cells coherent step) v (calls_of cs) w) where
-    pub window_played : ds ≡ played (Cells v) cs → ((k : ℕ) → k ≤ length cs → Between Cells coherent step v (calls_of cs) k w) → Cells w ≡ model (Cells v) (calls_of cs) → ListLaw (Cells v) cs ds (Cells w) → WindowPlayed meaning R (is_open v) (layout v) (below v) (below w) (tlb v) (tlb w) cs ds
-    window_played calls every cells law =
-        let p = passed v w (calls_of cs) linked in
-        let same = cells_by_start v w (calls_of cs) p in
-        record {
-          calls = calls;
-          every = λ k low. state_after v w (calls_of cs) k (every k low);
-          cells = same ∙ cells;
-          law = subst (ListLaw (Cells v) cs ds) (sym same) law;
-          behind = p.behind;
-          reached = p.reached;
-          effect = p.effect;
-        }
+  pub played_through : (v w : W) (cs ds : List Recorded) → ListPlayed Cells coherent step v w cs ds → PlayedThrough meaning R (is_open v) (layout v) (below v) (below w) (tlb v) (tlb w) cs ds
+  played_through v w cs ds list =
+      let p = passed v w (calls_of cs) list.linked in
+      let same = cells_by_start v w (calls_of cs) p in
+      record {
+        calls = list.calls;
+        every = λ k low. state_after v w (calls_of cs) k (list.every k low);
+        cells = same ∙ list.cells;
+        law = subst (ListLaw (Cells v) cs ds) (sym same) list.law;
+        behind = p.behind;
+        reached = p.reached;
+        effect = p.effect;
+      }
+
+-- the same of windows
+module _ {P S Q : Type 0} (armed : P → Type 0) (layout : P → Layout) (meaning : S → Meaning) (coherent : S → Type 0) (R : S → Call → S → Type 0) where
+  abbrev WindowCells : Window P S Q → Meaning
+  WindowCells w = shown (is_ok w.opening) (layout w.mapping) (meaning w.below)
+
+  abbrev WindowCoherent : Window P S Q → Type 0
+  WindowCoherent w = Standing (armed w.mapping) (coherent w.below) (is_ok w.opening) (layout w.mapping) (meaning w.below) w.tlb
+
+  abbrev WindowStep : Window P S Q → Call → Window P S Q → Type 0
+  WindowStep before call after = Called ((after.mapping ≡ before.mapping) × (after.opening ≡ before.opening)) (Reached R before.below after.below) (is_ok before.opening) (layout before.mapping) (meaning before.below) (meaning after.below) before.tlb after.tlb call
+
+  pub list_on_window : (v w : Window P S Q) (cs ds : List Recorded) → ListPlayed WindowCells WindowCoherent WindowStep v w cs ds → WindowPlayed armed layout meaning coherent R v w cs ds
+  list_on_window v w cs ds list = record {
+    list =
+        played_through meaning R (λ x. x.below) (λ x. x.tlb) (λ x. is_ok x.opening) (λ x. layout x.mapping) WindowCoherent WindowStep
+        (λ x y c s. record { same = (ap layout s.same.0, ap is_ok s.same.1); reached = s.reached; below = s.below; tlb = s.tlb; effect = s.effect; count = s.count })
+        v w cs ds list;
+    mapping = linked_keeps WindowCells WindowCoherent WindowStep (λ x. x.mapping) (λ x y c s. s.same.0) v w (calls_of cs) list.linked;
+    opening = linked_keeps WindowCells WindowCoherent WindowStep (λ x. x.opening) (λ x y c s. s.same.1) v w (calls_of cs) list.linked;
+    standing = list.coherent_after;
+  }
