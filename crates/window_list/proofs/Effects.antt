@@ -38,7 +38,7 @@ same_more (Err f) (Err g) (Err h) one two = one ∙ two
 same_entry : {e d : Entry} (r : Result Entry Fault) → r ≡ Ok e → r ≡ Ok d → d ≡ e
 same_entry r one two = cc
 
-no_call : {Sort : Call → Type 0} {l : Layout} {m : Meaning} {k : ℕ} → AccessedBy Sort l m [] k → ⊥
+pub no_call : {Sort : Call → Type 0} {l : Layout} {m : Meaning} {k : ℕ} → AccessedBy Sort l m [] k → ⊥
 no_call a = by a.index a.at where
   by : {c : Call} (i : ℕ) → slice_get [] i ≡ Some c → ⊥
   by zero at = absurd cc

@@ -1,0 +1,10 @@
+// A window from its registers to its closing, in one call.
+#![tactic(auto)]
+
+mod refusal;
+mod set_up;
+mod window_run;
+
+pub use refusal::{RegisterWrite, SetUpRefusal};
+pub use set_up::armed_set;
+pub use window_run::{WindowRun, run_window};
