@@ -1,7 +1,4 @@
 // A window over a window.
-ghost use Rattle.std.specs.Prelude.{IfOk, is_ok};
-ghost use Rattle.window.specs.State.{Standing};
-
 use crate::scenes::{CHECKED_BYTES, Entry, PLAIN_BYTES, Scene, put_entries, scene_bytes};
 use crate::script::{Answer, Call, Change, Step, change, check_window, refused};
 use crate::sweep::{Model, standing, sweep_line};
@@ -41,14 +38,6 @@ fn bottom_bytes<F: LineFormat>(heap: Global, borrowed: usize) -> Result<Vec<u8>,
     let mut bytes = scene_bytes::<F>(heap, borrowed, LOWER)?;
     put_entries::<F>(&mut bytes, UPPER_TABLE, UPPER_ENTRIES);
     Ok(bytes)
-}
-
-fn lower_window<M: Memory + Drop>(below: M) -> Result<Window<Transpose, M>, Fail>
-    requires { M.Memory.coherent below }
-    ensures { IfOk result (λ w. Standing (Transpose.Mapping.armed w.mapping) (M.Memory.coherent w.below) (is_ok w.opening) (Transpose.Mapping.meaning w.mapping) (M.Memory.meaning w.below) w.tlb) }
-{
-    let set = armed_set::<Transpose>(&LOWER.registers)?;
-    Ok(Window::open(set, below, &mut [0; 8]))
 }
 
 // Image      0      32     64     96
@@ -91,7 +80,8 @@ fn places(rt: HostRuntime) -> Result<(), Fail> {
     // the upper opening reads the upper table
     change::<CellsAlone>(heap, &mut model.bytes, &[(0, 1, 0xc0)])?;
     for line in [0, 128] {
-        let lower = lower_window(Plain::new(&mut bytes))?;
+        let set = armed_set::<Transpose>(&LOWER.registers)?;
+        let lower = Window::open(set, Plain::new(&mut bytes), &mut [0; 8]);
         sweep_line::<Stride, Window<Transpose, Plain>>(heap, UPPER, lower, &mut model, line)?;
         same(bytes == model.bytes, true)?;
     }
@@ -107,7 +97,8 @@ fn check_two(
 ) -> Result<(), Fail> {
     let mut due = bytes.to_vec(heap)?;
     change::<CheckByte>(heap, &mut due, changes)?;
-    let lower = lower_window(Checked::new(bytes))?;
+    let set = armed_set::<Transpose>(&LOWER.registers)?;
+    let lower = Window::open(set, Checked::new(bytes), &mut [0; 8]);
     check_window::<Stride, Window<Transpose, Checked>>(heap, UPPER, lower, steps)?;
     same(&*bytes == due.as_slice(), true)
 }
