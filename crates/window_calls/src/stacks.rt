@@ -4,7 +4,7 @@ use crate::script::{Answer, Call, Change, Step, change, check_window, refused};
 use crate::sweep::{Model, standing, sweep_line};
 use checked::{CheckByte, Checked, flip};
 use expect::{armed_set, same};
-use memory::{Cause, LineFormat, Memory};
+use memory::{Cause, LineFormat};
 use plain::{CellsAlone, Plain};
 use std::alloc::Global;
 use std::test::Fail;
