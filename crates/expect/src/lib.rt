@@ -1,8 +1,8 @@
-// What the tests share: a comparison that is an error where two values differ, and sets that are armed.
+// What the tests share: a comparison that is an error where two values differ, and sets that are written and armed.
 #![tactic(auto)]
 
 mod armed;
 mod comparison;
 
-pub use armed::armed_set;
+pub use armed::{armed_set, set_of};
 pub use comparison::same;

@@ -3,7 +3,7 @@ ghost use Rattle.std.specs.Prelude.{IfOk};
 
 use crate::card::Card;
 use crate::sets::armed_set;
-use crate::table::write_entry;
+use crate::table::{Entry, write_entry};
 use crate::windows::show_report;
 use anyhow::bail;
 use memory::Memory;
@@ -86,8 +86,8 @@ fn show_opening<M: Memory + Drop>(
     println!(rt; "{}", case.words)?;
     let mut memory = memory;
     let [first, second] = case.frames;
-    write_entry(&mut memory, card.table(), 0, first)?;
-    write_entry(&mut memory, card.table(), 1, second)?;
+    write_entry(&mut memory, card.table(), 0, Entry::Live(first))?;
+    write_entry(&mut memory, card.table(), 1, Entry::Live(second))?;
     let set = armed_set::<Stride>(&[256, u64::from(case.table), 4, 128, 8])?;
     let mut board = vec![in rt.alloc(); 0u8; case.board as usize]?;
     let window = Window::open(set, memory, &mut board);

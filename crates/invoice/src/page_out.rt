@@ -3,7 +3,7 @@ ghost use Rattle.std.specs.Prelude.{IfOk};
 
 use crate::card::Card;
 use crate::sets::armed_set;
-use crate::table::{show_unmarked_out, write_entry_out};
+use crate::table::{Entry, show_unmarked_out, write_entry};
 use crate::windows::{open, show_counts, show_refused_line};
 use memory::{Cause, Fault, Memory};
 use stride::Stride;
@@ -21,7 +21,7 @@ pub(crate) fn show_page_out<M: Memory + Drop>(
     println!(rt; "The page of the last line is not in memory, says its entry:")?;
     let last = card.lines.saturating_sub(1);
     let mut memory = memory;
-    write_entry_out(&mut memory, card.table(), last)?;
+    write_entry(&mut memory, card.table(), last, Entry::Out(last))?;
     let mut window = open(rt, armed_set::<Stride>(&card.stride_settings())?, memory)?;
     let due = Fault::here(Cause::PageOut, u64::from(last) * LINE);
     show_refused_line(rt, &mut window, last, due)?;

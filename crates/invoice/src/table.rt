@@ -19,56 +19,48 @@ pub(crate) const WRITTEN: u8 = 0xE0;
 // The first byte of an entry that is valid and out, with no mark.
 const FRESH_OUT: u8 = 0x90;
 
-// Writes a table of so many entries, of which each names the page of its own number.
+// A valid entry, with the page that it names.
+#[derive(Clone, Copy)]
+pub(crate) enum Entry {
+    // that page is in memory
+    Live(u32),
+    // it is not
+    Out(u32),
+}
+
+impl Entry {
+    fn word(self) -> u32 {
+        match self {
+            Entry::Live(frame) => VALID | frame,
+            Entry::Out(frame) => VALID | OUT | frame,
+        }
+    }
+}
+
+// Writes a table of so many live entries, of which each names the page of its own number.
 pub(crate) fn write_table<M: Memory>(memory: &mut M, table: u32, entries: u32) -> anyhow::Result<()>
     requires { M.coherent memory.old }
     ensures { M.coherent memory.new }
 {
     for number in 0..entries {
-        write_entry(memory, table, number, number)?;
+        write_entry(memory, table, number, Entry::Live(number))?;
     }
     Ok(())
 }
 
-// Makes an entry of the table in this page a live one.
+// Replaces an entry of the table that starts in this page.
 pub(crate) fn write_entry<M: Memory>(
     memory: &mut M,
     table: u32,
     number: u32,
-    frame: u32,
+    entry: Entry,
 ) -> anyhow::Result<()>
     requires { M.coherent memory.old }
     ensures { M.coherent memory.new }
 {
-    write_word(
-        memory,
-        entry_address(table, u64::from(number)),
-        VALID | frame,
-    )
-}
-
-// Makes it one whose page is not in memory.
-pub(crate) fn write_entry_out<M: Memory>(
-    memory: &mut M,
-    table: u32,
-    number: u32,
-) -> anyhow::Result<()>
-    requires { M.coherent memory.old }
-    ensures { M.coherent memory.new }
-{
-    write_word(
-        memory,
-        entry_address(table, u64::from(number)),
-        VALID | OUT | number,
-    )
-}
-
-fn write_word<M: Memory>(memory: &mut M, address: u64, word: u32) -> anyhow::Result<()>
-    requires { M.coherent memory.old }
-    ensures { M.coherent memory.new }
-{
+    let address = entry_address(table, u64::from(number));
     memory
-        .write(address, &word.to_be_bytes())
+        .write(address, &entry.word().to_be_bytes())
         .context("the page table was not written")
 }
 

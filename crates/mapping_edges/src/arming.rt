@@ -1,8 +1,8 @@
 // Which values arm, and with which refusal the others do not.
-use crate::setup::{arm, set_of};
+use crate::setup::arm;
 use colour::Colour;
 use direct::Direct;
-use expect::same;
+use expect::{same, set_of};
 use mapping::{ArmingRefusal, Mapping};
 use std::test::Fail;
 use stride::Stride;

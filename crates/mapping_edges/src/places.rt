@@ -1,16 +1,18 @@
 // Where the bytes of an image stand.
-use crate::setup::place;
 use colour::Colour;
 use direct::Direct;
-use expect::same;
-use mapping::Mapping;
+use expect::{armed_set, same};
+use mapping::{Mapping, WindowAddress};
 use std::test::Fail;
 use stride::Stride;
 use transpose::Transpose;
 
+// Window addresses, each with the place of its byte under these values, if there is one.
 fn check_places<M: Mapping>(values: &[u64], cases: &[(u64, Option<u64>)]) -> Result<(), Fail> {
+    let mapping = armed_set::<M>(values)?.into_mapping();
     for (s, expected) in cases {
-        same(place::<M>(values, *s), *expected)?;
+        let place = mapping.place(WindowAddress(*s));
+        same(place.map(|v| v.0), *expected)?;
     }
     Ok(())
 }

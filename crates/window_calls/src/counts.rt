@@ -1,30 +1,25 @@
 // Lookups and fills, call by call.
 use crate::scenes::{CHECKED_BYTES, OBJECTS, PLAIN_BYTES, Scene, scene_bytes};
-use crate::script::{Answer, Call, check_window};
+use crate::script::{Call, Step, below, check_window, here};
 use checked::{CheckByte, Checked, flip};
 use direct::Direct;
-use memory::{Cause, Fault};
+use mapping::Mapping;
+use memory::Cause;
 use plain::{CellsAlone, Plain};
+use std::alloc::Global;
 use std::test::Fail;
 use stride::Stride;
 use transpose::Transpose;
 
-fn here(cause: Cause, place: u64) -> Answer {
-    Err(Fault::here(cause, place))
-}
-
-fn below(place: u64) -> Answer {
-    Err(Fault {
-        cause: Cause::FailedCheck,
-        depth: 1,
-        place,
-    })
+// A script over plain memory.
+fn check_plain<P: Mapping>(heap: Global, scene: Scene, steps: &[Step]) -> Result<(), Fail> {
+    let mut bytes = scene_bytes::<CellsAlone>(heap, PLAIN_BYTES, scene)?;
+    check_window::<P, Plain>(heap, scene.registers, Plain::new(&mut bytes), steps)
 }
 
 // An image of 33 pages, of which 0, 31 and 32 are in memory.
 #[test]
 fn direct(rt: HostRuntime) -> Result<(), Fail> {
-    let heap = rt.alloc();
     let scene = Scene {
         registers: [135168, 1, 0, 0, 0],
         entries: &[
@@ -34,11 +29,9 @@ fn direct(rt: HostRuntime) -> Result<(), Fail> {
             (32, 0x8000_0000),
         ],
     };
-    let mut bytes = scene_bytes::<CellsAlone>(heap, PLAIN_BYTES, scene)?;
-    check_window::<Direct, Plain>(
-        heap,
-        scene.registers,
-        Plain::new(&mut bytes),
+    check_plain::<Direct>(
+        rt.alloc(),
+        scene,
         &[
             (Call::Read, 0, 1, Ok(()), 1, 1),
             (Call::Read, 131072, 128, Ok(()), 2, 2),
@@ -95,7 +88,6 @@ fn displaces_nothing(rt: HostRuntime) -> Result<(), Fail> {
 // Four elements in one line of the image, in pages 0, 32, 64 and 96, which all take place 0 of the TLB.
 #[test]
 fn competing_pages(rt: HostRuntime) -> Result<(), Fail> {
-    let heap = rt.alloc();
     let scene = Scene {
         registers: [128, 1, 32, 131072, 4],
         entries: &[
@@ -105,11 +97,9 @@ fn competing_pages(rt: HostRuntime) -> Result<(), Fail> {
             (96, 0x8000_0006),
         ],
     };
-    let mut bytes = scene_bytes::<CellsAlone>(heap, PLAIN_BYTES, scene)?;
-    check_window::<Transpose, Plain>(
-        heap,
-        scene.registers,
-        Plain::new(&mut bytes),
+    check_plain::<Transpose>(
+        rt.alloc(),
+        scene,
         &[
             (Call::Read, 0, 128, Ok(()), 4, 4),
             (Call::Read, 96, 32, Ok(()), 5, 4),
@@ -124,16 +114,13 @@ fn competing_pages(rt: HostRuntime) -> Result<(), Fail> {
 // What a refused call has read of the table stays held.
 #[test]
 fn refused_calls(rt: HostRuntime) -> Result<(), Fail> {
-    let heap = rt.alloc();
     let objects = Scene {
         registers: OBJECTS,
         entries: &[(0, 0x8000_0005), (2, 0x8000_0003), (3, 0x9000_0006)],
     };
-    let mut bytes = scene_bytes::<CellsAlone>(heap, PLAIN_BYTES, objects)?;
-    check_window::<Stride, Plain>(
-        heap,
-        objects.registers,
-        Plain::new(&mut bytes),
+    check_plain::<Stride>(
+        rt.alloc(),
+        objects,
         &[
             (Call::Read, 0, 128, here(Cause::NoPage, 64), 3, 1),
             (Call::Read, 0, 64, Ok(()), 5, 1),

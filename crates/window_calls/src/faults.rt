@@ -1,11 +1,12 @@
 // Runs that are refused: which fault is answered, and that it is the only thing that comes of them.
 use crate::scenes::{CHECKED_BYTES, LIVE, OBJECTS, PLAIN_BYTES, Scene, scene_bytes};
-use crate::script::{Answer, Call, Run, check_opened, check_runs};
+use crate::script::{Call, Run, below, check_opened, check_runs, here};
 use checked::{CheckByte, flip};
 use colour::Colour;
 use direct::Direct;
 use expect::same;
-use memory::{Cause, Fault};
+use mapping::Mapping;
+use memory::{Cause, LineFormat};
 use plain::{CellsAlone, Plain};
 use spoilt::OneFault;
 use std::alloc::Global;
@@ -15,17 +16,14 @@ use transpose::Transpose;
 
 const LAST: u64 = u64::MAX;
 
-fn here(cause: Cause, place: u64) -> Answer {
-    Err(Fault::here(cause, place))
-}
-
-// A failed check of the memory below.
-fn below(place: u64) -> Answer {
-    Err(Fault {
-        cause: Cause::FailedCheck,
-        depth: 1,
-        place,
-    })
+// Runs over bytes that are written as plain memory, whichever memory then holds them.
+fn check_scene<P: Mapping, F: LineFormat>(
+    heap: Global,
+    scene: Scene,
+    runs: &[Run],
+) -> Result<(), Fail> {
+    let bytes = scene_bytes::<CellsAlone>(heap, PLAIN_BYTES, scene)?;
+    check_runs::<P, F>(heap, scene, &bytes, runs)
 }
 
 // Pages 1 and 3 of the objects are not in memory: the entry of page 1 is not valid, and out as well.
@@ -41,12 +39,9 @@ const DEAD: Scene = Scene {
 
 #[test]
 fn dead_entries(rt: HostRuntime) -> Result<(), Fail> {
-    let heap = rt.alloc();
-    let bytes = scene_bytes::<CellsAlone>(heap, PLAIN_BYTES, DEAD)?;
-    check_runs::<Stride, CellsAlone>(
-        heap,
+    check_scene::<Stride, CellsAlone>(
+        rt.alloc(),
         DEAD,
-        &bytes,
         &[
             (0, 0, here(Cause::BadRun, 0), 0, 0),
             (0, 129, here(Cause::BadRun, 0), 0, 0),
@@ -73,16 +68,13 @@ fn dead_entries(rt: HostRuntime) -> Result<(), Fail> {
 // Pages 2 and 6 of the image are drawn from pages 0 and 1 of the data, and nothing stands behind the others.
 #[test]
 fn blanks(rt: HostRuntime) -> Result<(), Fail> {
-    let heap = rt.alloc();
     let scene = Scene {
         registers: [32768, 1, 16384, 4096, 8192],
         entries: &[(0, 0x8000_0005), (1, 0x9000_0000)],
     };
-    let bytes = scene_bytes::<CellsAlone>(heap, PLAIN_BYTES, scene)?;
-    check_runs::<Colour, CellsAlone>(
-        heap,
+    check_scene::<Colour, CellsAlone>(
+        rt.alloc(),
         scene,
-        &bytes,
         &[
             (0, 1, here(Cause::Blank, 0), 0, 0),
             (0, 128, here(Cause::Blank, 0), 0, 0),
@@ -100,23 +92,29 @@ fn blanks(rt: HostRuntime) -> Result<(), Fail> {
     )
 }
 
-// Runs by objects over a checked memory in which a bit of this borrowed byte turns over once all is written.
-fn check_flipped(heap: Global, scene: Scene, at: usize, runs: &[Run]) -> Result<(), Fail> {
+// Runs over a checked memory in which a bit of this borrowed byte turns over once all is written.
+fn check_flipped<P: Mapping>(
+    heap: Global,
+    scene: Scene,
+    at: usize,
+    bit: u8,
+    runs: &[Run],
+) -> Result<(), Fail> {
     let mut bytes = scene_bytes::<CheckByte>(heap, CHECKED_BYTES, scene)?;
-    flip(&mut bytes, at, 5);
-    check_runs::<Stride, CheckByte>(heap, scene, &bytes, runs)
+    flip(&mut bytes, at, bit);
+    check_runs::<P, CheckByte>(heap, scene, &bytes, runs)
 }
 
-// The line of the object at 32 is line 177 of the memory, and the table begins with line 32.
+// The line of the object at 32 is line 177 of the memory, so it is borrowed from 177 × 129 = 22833 on: a cell of the object, a cell
+// before it, and the check byte.
 #[test]
-fn failed_checks(rt: HostRuntime) -> Result<(), Fail> {
-    let heap = rt.alloc();
-    // a cell of the object, a cell before it, and the check byte, in 177 × 129 = 22833 and the 128 bytes after it
+fn failed_check_of_an_object(rt: HostRuntime) -> Result<(), Fail> {
     for at in [22940, 22833, 22961] {
-        check_flipped(
-            heap,
+        check_flipped::<Stride>(
+            rt.alloc(),
             LIVE,
             at,
+            5,
             &[
                 (0, 32, Ok(()), 1, 1),
                 (0, 33, below(22752), 2, 1),
@@ -128,23 +126,34 @@ fn failed_checks(rt: HostRuntime) -> Result<(), Fail> {
             ],
         )?;
     }
-    // the first fault of a run decides, and not the page table before the data
-    check_flipped(
-        heap,
+    Ok(())
+}
+
+// The first fault of a run decides, and not the page table before the data.
+#[test]
+fn first_fault(rt: HostRuntime) -> Result<(), Fail> {
+    check_flipped::<Stride>(
+        rt.alloc(),
         DEAD,
         22940,
+        5,
         &[
             (0, 128, below(22752), 2, 1),
             (63, 2, below(22783), 1, 1),
             (64, 64, here(Cause::NoPage, 64), 1, 0),
         ],
-    )?;
-    // the table: a cell of entry 0, a cell past the last entry, and the check byte, from 32 × 129 = 4128 on
+    )
+}
+
+// The table is in line 32, from 32 × 129 = 4128 on: a cell of entry 0, a cell past the last entry, and the check byte.
+#[test]
+fn failed_check_of_the_table(rt: HostRuntime) -> Result<(), Fail> {
     for at in [4128, 4200, 4256] {
-        check_flipped(
-            heap,
+        check_flipped::<Stride>(
+            rt.alloc(),
             LIVE,
             at,
+            5,
             &[
                 (0, 128, below(4096), 1, 0),
                 (40, 1, below(4096), 1, 0),
@@ -161,17 +170,15 @@ fn failed_checks(rt: HostRuntime) -> Result<(), Fail> {
 // The second element of the line stands 32 pages after the first, and its entry in the second line of the table.
 #[test]
 fn failed_check_of_a_later_entry(rt: HostRuntime) -> Result<(), Fail> {
-    let heap = rt.alloc();
     let scene = Scene {
         registers: [128, 1, 64, 131072, 2],
         entries: &[(0, 0x8000_0005), (32, 0x8000_0003)],
     };
-    let mut bytes = scene_bytes::<CheckByte>(heap, CHECKED_BYTES, scene)?;
-    flip(&mut bytes, 4300, 0);
-    check_runs::<Transpose, CheckByte>(
-        heap,
+    check_flipped::<Transpose>(
+        rt.alloc(),
         scene,
-        &bytes,
+        4300,
+        0,
         &[
             (0, 64, Ok(()), 1, 1),
             (0, 128, below(4224), 2, 1),
@@ -182,34 +189,34 @@ fn failed_check_of_a_later_entry(rt: HostRuntime) -> Result<(), Fail> {
     )
 }
 
-// The spoilt cell is 4230: the third of entry 33, or a cell of the data.
+// The spoilt cell is 4230: here the third of entry 33.
 #[test]
-fn spoilt_cell(rt: HostRuntime) -> Result<(), Fail> {
-    let heap = rt.alloc();
-    let in_entry = Scene {
+fn spoilt_entry(rt: HostRuntime) -> Result<(), Fail> {
+    let scene = Scene {
         registers: [128, 1, 64, 135168, 2],
         entries: &[(0, 0x8000_0005), (33, 0x8000_0003)],
     };
-    let bytes = scene_bytes::<CellsAlone>(heap, PLAIN_BYTES, in_entry)?;
-    check_runs::<Transpose, OneFault>(
-        heap,
-        in_entry,
-        &bytes,
+    check_scene::<Transpose, OneFault>(
+        rt.alloc(),
+        scene,
         &[
             (0, 64, Ok(()), 1, 1),
             (0, 128, below(4230), 2, 1),
             (64, 1, below(4230), 1, 0),
         ],
-    )?;
-    let in_line = Scene {
+    )
+}
+
+// Here it is a cell of the data.
+#[test]
+fn spoilt_cell(rt: HostRuntime) -> Result<(), Fail> {
+    let scene = Scene {
         registers: [8192, 0, 0, 0, 0],
         entries: &[(0, 0x8000_0001), (1, 0x8000_0002)],
     };
-    let bytes = scene_bytes::<CellsAlone>(heap, PLAIN_BYTES, in_line)?;
-    check_runs::<Direct, OneFault>(
-        heap,
-        in_line,
-        &bytes,
+    check_scene::<Direct, OneFault>(
+        rt.alloc(),
+        scene,
         &[
             (0, 128, Ok(()), 1, 1),
             (128, 128, below(4230), 1, 1),
@@ -217,17 +224,19 @@ fn spoilt_cell(rt: HostRuntime) -> Result<(), Fail> {
             (128, 7, below(4230), 1, 1),
             (135, 121, Ok(()), 1, 1),
         ],
-    )?;
-    // objects of 4 bytes from 4 on, one in each line: 4230 is the third byte of the second
-    let in_object = Scene {
+    )
+}
+
+// Objects of 4 bytes from 4 on, one in each line: 4230 is the third byte of the second.
+#[test]
+fn spoilt_object(rt: HostRuntime) -> Result<(), Fail> {
+    let scene = Scene {
         registers: [128, 0, 4, 128, 4],
         entries: &[(0, 0x8000_0001)],
     };
-    let bytes = scene_bytes::<CellsAlone>(heap, PLAIN_BYTES, in_object)?;
-    check_runs::<Stride, OneFault>(
-        heap,
-        in_object,
-        &bytes,
+    check_scene::<Stride, OneFault>(
+        rt.alloc(),
+        scene,
         &[
             (0, 6, Ok(()), 2, 1),
             (0, 7, below(4230), 2, 1),

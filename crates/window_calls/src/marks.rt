@@ -1,10 +1,11 @@
 // The marks that calls leave in the page table, and the bytes that writes leave beside them.
 use crate::scenes::{CHECKED_BYTES, OBJECTS, PLAIN_BYTES, Scene};
-use crate::script::{Call, Change, Step, check_script};
+use crate::script::{Call, Change, Step, check_script, here};
 use checked::CheckByte;
 use direct::Direct;
-use memory::{Cause, Fault};
+use memory::Cause;
 use plain::CellsAlone;
+use std::alloc::Global;
 use std::test::Fail;
 use stride::Stride;
 
@@ -19,73 +20,106 @@ const SCENE: Scene = Scene {
     ],
 };
 
-#[test]
-fn reads_and_writes(rt: HostRuntime) -> Result<(), Fail> {
-    let out = Err(Fault::here(Cause::PageOut, 192));
-    let bad = Err(Fault::here(Cause::BadRun, 0));
-    let cases: &[(&[Step], &[Change])] = &[
-        (&[], &[]),
-        (&[(Call::Read, 0, 1, Ok(()), 1, 1)], &[(4096, 1, 0xc0)]),
-        (&[(Call::Read, 64, 1, Ok(()), 1, 1)], &[(4100, 1, 0xe0)]),
-        (
-            &[(Call::Read, 0, 128, Ok(()), 4, 2)],
-            &[(4096, 1, 0xc0), (4100, 1, 0xe0)],
-        ),
-        // a page that is referenced already
-        (&[(Call::Read, 128, 64, Ok(()), 2, 1)], &[]),
-        (
-            &[(Call::Write, 128, 1, Ok(()), 1, 1)],
-            &[(4104, 1, 0xe0), (12896, 1, 0xee)],
-        ),
-        (
-            &[(Call::Write, 30, 4, Ok(()), 2, 1)],
-            &[(4096, 1, 0xe0), (20606, 2, 0xee), (22752, 2, 0xee)],
-        ),
-        (
-            &[(Call::Write, 0, 128, Ok(()), 4, 2)],
-            &[
-                (4096, 1, 0xe0),
-                (4100, 1, 0xe0),
-                (20576, 32, 0xee),
-                (22752, 32, 0xee),
-                (352, 32, 0xee),
-                (2528, 32, 0xee),
-            ],
-        ),
-        // a write after a read, and a read after a write
-        (
-            &[
-                (Call::Read, 0, 1, Ok(()), 1, 1),
-                (Call::Write, 0, 1, Ok(()), 2, 1),
-            ],
-            &[(4096, 1, 0xe0), (20576, 1, 0xee)],
-        ),
-        (
-            &[
-                (Call::Write, 0, 1, Ok(()), 1, 1),
-                (Call::Read, 0, 1, Ok(()), 2, 1),
-            ],
-            &[(4096, 1, 0xe0), (20576, 1, 0xee)],
-        ),
-        // refused calls, also where the run begins well; faults.rt has more, over pages without marks
-        (&[(Call::Read, 128, 128, out, 3, 1)], &[]),
-        (&[(Call::Write, 128, 128, out, 3, 1)], &[]),
-        (&[(Call::Write, 0, 129, bad, 0, 0)], &[]),
-        // a write to the page that a refused call has read of the table
-        (
-            &[
-                (Call::Write, 128, 128, out, 3, 1),
-                (Call::Write, 160, 32, Ok(()), 4, 1),
-            ],
-            &[(4104, 1, 0xe0), (15072, 32, 0xee)],
-        ),
-    ];
+// Scripts with the changes that each leaves, over plain and over checked memory.
+fn check_cases(heap: Global, cases: &[(&[Step], &[Change])]) -> Result<(), Fail> {
     for (steps, changes) in cases {
-        let heap = rt.alloc();
         check_script::<Stride, CellsAlone>(heap, PLAIN_BYTES, SCENE, steps, changes)?;
         check_script::<Stride, CheckByte>(heap, CHECKED_BYTES, SCENE, steps, changes)?;
     }
     Ok(())
+}
+
+#[test]
+fn reads(rt: HostRuntime) -> Result<(), Fail> {
+    check_cases(
+        rt.alloc(),
+        &[
+            (&[], &[]),
+            (&[(Call::Read, 0, 1, Ok(()), 1, 1)], &[(4096, 1, 0xc0)]),
+            (&[(Call::Read, 64, 1, Ok(()), 1, 1)], &[(4100, 1, 0xe0)]),
+            (
+                &[(Call::Read, 0, 128, Ok(()), 4, 2)],
+                &[(4096, 1, 0xc0), (4100, 1, 0xe0)],
+            ),
+            // a page that is referenced already
+            (&[(Call::Read, 128, 64, Ok(()), 2, 1)], &[]),
+        ],
+    )
+}
+
+#[test]
+fn writes(rt: HostRuntime) -> Result<(), Fail> {
+    check_cases(
+        rt.alloc(),
+        &[
+            (
+                &[(Call::Write, 128, 1, Ok(()), 1, 1)],
+                &[(4104, 1, 0xe0), (12896, 1, 0xee)],
+            ),
+            (
+                &[(Call::Write, 30, 4, Ok(()), 2, 1)],
+                &[(4096, 1, 0xe0), (20606, 2, 0xee), (22752, 2, 0xee)],
+            ),
+            (
+                &[(Call::Write, 0, 128, Ok(()), 4, 2)],
+                &[
+                    (4096, 1, 0xe0),
+                    (4100, 1, 0xe0),
+                    (20576, 32, 0xee),
+                    (22752, 32, 0xee),
+                    (352, 32, 0xee),
+                    (2528, 32, 0xee),
+                ],
+            ),
+        ],
+    )
+}
+
+// A write after a read, and a read after a write.
+#[test]
+fn in_turn(rt: HostRuntime) -> Result<(), Fail> {
+    check_cases(
+        rt.alloc(),
+        &[
+            (
+                &[
+                    (Call::Read, 0, 1, Ok(()), 1, 1),
+                    (Call::Write, 0, 1, Ok(()), 2, 1),
+                ],
+                &[(4096, 1, 0xe0), (20576, 1, 0xee)],
+            ),
+            (
+                &[
+                    (Call::Write, 0, 1, Ok(()), 1, 1),
+                    (Call::Read, 0, 1, Ok(()), 2, 1),
+                ],
+                &[(4096, 1, 0xe0), (20576, 1, 0xee)],
+            ),
+        ],
+    )
+}
+
+// Also where the run begins well. The tests of faults have more, over pages without marks.
+#[test]
+fn refused_calls(rt: HostRuntime) -> Result<(), Fail> {
+    let out = here(Cause::PageOut, 192);
+    let bad = here(Cause::BadRun, 0);
+    check_cases(
+        rt.alloc(),
+        &[
+            (&[(Call::Read, 128, 128, out, 3, 1)], &[]),
+            (&[(Call::Write, 128, 128, out, 3, 1)], &[]),
+            (&[(Call::Write, 0, 129, bad, 0, 0)], &[]),
+            // a write to the page that a refused call has read of the table
+            (
+                &[
+                    (Call::Write, 128, 128, out, 3, 1),
+                    (Call::Write, 160, 32, Ok(()), 4, 1),
+                ],
+                &[(4104, 1, 0xe0), (15072, 32, 0xee)],
+            ),
+        ],
+    )
 }
 
 // Pages 0 and 32 take one place of the TLB, and each mark stands in the table whether the page is held or not.

@@ -2,7 +2,7 @@
 use crate::scenes::{Scene, scene_bytes};
 use expect::{armed_set, same};
 use mapping::Mapping;
-use memory::{ByteMemory, Fault, LineFormat, Memory};
+use memory::{ByteMemory, Cause, Fault, LineFormat, Memory};
 use std::alloc::Global;
 use std::test::Fail;
 use window::Window;
@@ -15,35 +15,53 @@ pub(crate) enum Call {
 
 pub(crate) type Answer = Result<(), Fault>;
 
+// The refusal of a call by a fault that arose so many layers below the window.
+pub(crate) fn refused(cause: Cause, depth: u8, place: u64) -> Answer {
+    Err(Fault {
+        cause,
+        depth,
+        place,
+    })
+}
+
+// One by a fault of the window itself.
+pub(crate) fn here(cause: Cause, place: u64) -> Answer {
+    refused(cause, 0, place)
+}
+
+// One by a failed check of the memory below.
+pub(crate) fn below(place: u64) -> Answer {
+    refused(Cause::FailedCheck, 1, place)
+}
+
 // A call, the address and the length of its run, its answer, and the counts of lookups and of fills after it.
 pub(crate) type Step = (Call, u64, usize, Answer, u64, u64);
 
 // Cells of the memory that a script leaves: an address, a number of cells, and the byte that each of them holds.
 pub(crate) type Change = (u64, usize, u8);
 
-// What every byte of a buffer is before a call; so it is also what a script writes.
+// What every byte of a buffer is before a call of a script; so it is also what a script writes.
 const FILL: u8 = 0xee;
 
-// One call. A buffer that is refused has to be as it was.
-fn check_call<W: Memory>(
+// One call with this buffer. If it is refused, the buffer has to be as it was.
+pub(crate) fn check_call<W: Memory>(
     heap: Global,
     memory: &mut W,
     call: Call,
     a: u64,
-    n: usize,
+    buffer: &mut [u8],
     answer: Answer,
 ) -> Result<(), Fail>
     requires { W.coherent memory.old }
     ensures { W.coherent memory.new }
 {
-    let mut buffer = vec![in heap; FILL; n]?;
+    let before = buffer.to_vec(heap)?;
     let found = match call {
-        Call::Read => memory.read(a, &mut buffer),
-        Call::Write => memory.write(a, &buffer),
+        Call::Read => memory.read(a, buffer),
+        Call::Write => memory.write(a, buffer),
     };
     same(found, answer)?;
-    let untouched = buffer.iter().all(|byte| *byte == FILL);
-    same(found.is_ok() || untouched, true)
+    same(found.is_ok() || &*buffer == before.as_slice(), true)
 }
 
 // A script on a window that opens with a board of a byte for each page.
@@ -74,7 +92,8 @@ pub(crate) fn check_opened<P: Mapping, M: Memory + Drop>(
     let size = if reason == 0 { registers[0] } else { 0 };
     same(window.report().reason, reason)?;
     for (call, a, n, answer, lookups, fills) in steps {
-        check_call(heap, &mut window, *call, *a, *n, *answer)?;
+        let mut buffer = vec![in heap; FILL; *n]?;
+        check_call(heap, &mut window, *call, *a, &mut buffer, *answer)?;
         let report = window.report();
         same(report.lookups, *lookups)?;
         same(report.fills, *fills)?;

@@ -1,10 +1,10 @@
 // A window over a window.
 use crate::scenes::{CHECKED_BYTES, Entry, PLAIN_BYTES, Scene, put_entries, scene_bytes};
-use crate::script::{Answer, Call, Change, Step, change, check_window};
-use crate::sweep::{Piece, standing, sweep_line};
-use checked::{CheckByte, flip};
+use crate::script::{Answer, Call, Change, Step, change, check_window, refused};
+use crate::sweep::{Model, standing, sweep_line};
+use checked::{CheckByte, Checked, flip};
 use expect::{armed_set, same};
-use memory::{ByteMemory, Cause, Fault, LineFormat, Memory};
+use memory::{Cause, LineFormat};
 use plain::{CellsAlone, Plain};
 use std::alloc::Global;
 use std::test::Fail;
@@ -40,21 +40,6 @@ fn bottom_bytes<F: LineFormat>(heap: Global, borrowed: usize) -> Result<Vec<u8>,
     Ok(bytes)
 }
 
-fn sweep_two<M: Memory + Drop>(
-    heap: Global,
-    below: M,
-    pieces: &[Piece],
-    model: &mut [u8],
-    line: u64,
-) -> Result<(), Fail>
-    requires { M.coherent below }
-{
-    let set = armed_set::<Transpose>(&LOWER.registers)?;
-    let mut board = [0; 8];
-    let lower = Window::open(set, below, &mut board);
-    sweep_line::<Stride, Window<Transpose, M>>(heap, UPPER, lower, pieces, model, line)
-}
-
 // Image      0      32     64     96
 // upper data 96     2272   4448   6624
 // lower      8288   10464  352    2528
@@ -87,140 +72,117 @@ fn places(rt: HostRuntime) -> Result<(), Fail> {
         ),
     ];
     let mut bytes = bottom_bytes::<CellsAlone>(heap, PLAIN_BYTES)?;
-    let mut model = bytes.to_vec(heap)?;
+    let mut model = Model {
+        image: UPPER[0],
+        pieces: &pieces,
+        bytes: bytes.to_vec(heap)?,
+    };
     // the upper opening reads the upper table
-    change::<CellsAlone>(heap, &mut model, &[(0, 1, 0xc0)])?;
+    change::<CellsAlone>(heap, &mut model.bytes, &[(0, 1, 0xc0)])?;
     for line in [0, 128] {
-        sweep_two(heap, Plain::new(&mut bytes), &pieces, &mut model, line)?;
-        same(bytes == model, true)?;
+        let set = armed_set::<Transpose>(&LOWER.registers)?;
+        let lower = Window::open(set, Plain::new(&mut bytes), &mut [0; 8]);
+        sweep_line::<Stride, Window<Transpose, Plain>>(heap, UPPER, lower, &mut model, line)?;
+        same(bytes == model.bytes, true)?;
     }
     Ok(())
 }
 
-fn script_two<M: Memory + Drop>(heap: Global, below: M, steps: &[Step]) -> Result<(), Fail>
-    requires { M.coherent below }
-{
-    let set = armed_set::<Transpose>(&LOWER.registers)?;
-    let mut board = [0; 8];
-    let lower = Window::open(set, below, &mut board);
-    check_window::<Stride, Window<Transpose, M>>(heap, UPPER, lower, steps)
-}
-
-// Calls on the upper window, after a bit of this borrowed byte was turned over. The bytes have to be as they were but for the changes.
+// Calls on the upper window over checked memory. Its bytes have to be as they were but for the changes.
 fn check_two(
     heap: Global,
-    bytes: &[u8],
-    at: usize,
+    bytes: &mut [u8],
     steps: &[Step],
     changes: &[Change],
 ) -> Result<(), Fail> {
-    let mut own = bytes.to_vec(heap)?;
-    flip(&mut own, at, 2);
-    let mut due = own.to_vec(heap)?;
+    let mut due = bytes.to_vec(heap)?;
     change::<CheckByte>(heap, &mut due, changes)?;
-    script_two(heap, ByteMemory::<CheckByte>::new(&mut own), steps)?;
-    same(own == due, true)
+    let set = armed_set::<Transpose>(&LOWER.registers)?;
+    let lower = Window::open(set, Checked::new(bytes), &mut [0; 8]);
+    check_window::<Stride, Window<Transpose, Checked>>(heap, UPPER, lower, steps)?;
+    same(&*bytes == due.as_slice(), true)
 }
 
-fn fault(cause: Cause, depth: u8, place: u64) -> Answer {
-    Err(Fault {
-        cause,
-        depth,
-        place,
-    })
+// The same after a bit of this borrowed byte was turned over.
+fn check_flipped(heap: Global, at: usize, steps: &[Step], changes: &[Change]) -> Result<(), Fail> {
+    let mut bytes = bottom_bytes::<CheckByte>(heap, CHECKED_BYTES)?;
+    flip(&mut bytes, at, 2);
+    check_two(heap, &mut bytes, steps, changes)
 }
 
-// No borrowed byte has this index.
-const NOWHERE: usize = CHECKED_BYTES;
+// A failed check of the memory below the lower window.
+fn failed_check(place: u64) -> Answer {
+    refused(Cause::FailedCheck, 2, place)
+}
 
+// The line of the object at 32, which is line 201 of the bottom: of a refused call only the lower window keeps marks, of what the upper
+// one read in it.
 #[test]
-fn faults(rt: HostRuntime) -> Result<(), Fail> {
-    let heap = rt.alloc();
-    let bytes = bottom_bytes::<CheckByte>(heap, CHECKED_BYTES)?;
-    // the line of the object at 32, which is line 201 of the bottom: of a refused call only the lower window keeps marks, of what the
-    // upper one read in it
-    check_two(
-        heap,
-        &bytes,
+fn failed_check_of_an_object(rt: HostRuntime) -> Result<(), Fail> {
+    check_flipped(
+        rt.alloc(),
         201 * 129,
         &[
-            (
-                Call::Read,
-                0,
-                128,
-                fault(Cause::FailedCheck, 2, 25824),
-                2,
-                1,
-            ),
-            (
-                Call::Write,
-                40,
-                20,
-                fault(Cause::FailedCheck, 2, 25832),
-                3,
-                1,
-            ),
+            (Call::Read, 0, 128, failed_check(25824), 2, 1),
+            (Call::Write, 40, 20, failed_check(25832), 3, 1),
         ],
         &[(0, 1, 0xc0), (4, 1, 0xc0)],
-    )?;
-    // the line of the upper table, line 176
-    check_two(
-        heap,
-        &bytes,
+    )
+}
+
+// Its line is line 176.
+#[test]
+fn failed_check_of_the_upper_table(rt: HostRuntime) -> Result<(), Fail> {
+    check_flipped(
+        rt.alloc(),
         176 * 129,
         &[
-            (
-                Call::Read,
-                0,
-                128,
-                fault(Cause::FailedCheck, 2, 22528),
-                1,
-                0,
-            ),
-            (
-                Call::Write,
-                100,
-                1,
-                fault(Cause::FailedCheck, 2, 22532),
-                2,
-                0,
-            ),
+            (Call::Read, 0, 128, failed_check(22528), 1, 0),
+            (Call::Write, 100, 1, failed_check(22532), 2, 0),
         ],
         &[],
-    )?;
-    // the line of the lower table, line 0: nothing of the upper one can be read
-    check_two(
-        heap,
-        &bytes,
+    )
+}
+
+// Its line is line 0: nothing of the upper table can be read.
+#[test]
+fn failed_check_of_the_lower_table(rt: HostRuntime) -> Result<(), Fail> {
+    check_flipped(
+        rt.alloc(),
         5,
         &[
-            (Call::Read, 0, 128, fault(Cause::FailedCheck, 2, 0), 1, 0),
-            (Call::Write, 100, 1, fault(Cause::FailedCheck, 2, 0), 2, 0),
+            (Call::Read, 0, 128, failed_check(0), 1, 0),
+            (Call::Write, 100, 1, failed_check(0), 2, 0),
         ],
         &[],
-    )?;
-    // lower pages that are not in memory: that of the object at 32, and that of the upper table
+    )
+}
+
+// Lower pages that are not in memory: that of the object at 32, and that of the upper table.
+#[test]
+fn dead_lower_entries(rt: HostRuntime) -> Result<(), Fail> {
+    let heap = rt.alloc();
     for (entry, steps, changes) in [
         (
             (3, 0x9000_0006),
             &[
-                (Call::Read, 0, 128, fault(Cause::PageOut, 1, 10464), 2, 1),
-                (Call::Write, 50, 50, fault(Cause::PageOut, 1, 10482), 3, 1),
+                (Call::Read, 0, 128, refused(Cause::PageOut, 1, 10464), 2, 1),
+                (Call::Write, 50, 50, refused(Cause::PageOut, 1, 10482), 3, 1),
             ],
             &[(0, 1, 0xc0), (4, 1, 0xc0)],
         ),
         (
             (0, 0x1000_0005),
             &[
-                (Call::Read, 0, 128, fault(Cause::NoPage, 1, 4096), 1, 0),
-                (Call::Write, 100, 1, fault(Cause::NoPage, 1, 4100), 2, 0),
+                (Call::Read, 0, 128, refused(Cause::NoPage, 1, 4096), 1, 0),
+                (Call::Write, 100, 1, refused(Cause::NoPage, 1, 4100), 2, 0),
             ],
             &[(4, 1, 0x80), (8, 1, 0x80)],
         ),
     ] {
-        let mut own = bytes.to_vec(heap)?;
-        put_entries::<CheckByte>(&mut own, 0, &[entry]);
-        check_two(heap, &own, NOWHERE, steps, changes)?;
+        let mut bytes = bottom_bytes::<CheckByte>(heap, CHECKED_BYTES)?;
+        put_entries::<CheckByte>(&mut bytes, 0, &[entry]);
+        check_two(heap, &mut bytes, steps, changes)?;
     }
     Ok(())
 }

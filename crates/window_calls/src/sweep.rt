@@ -1,5 +1,6 @@
 // Runs of many starts and lengths, each compared byte by byte with a model of the memory at the bottom.
 use crate::scenes::{PLAIN_BYTES, Scene, scene_bytes};
+use crate::script::{Answer, Call, check_call, here};
 use expect::{armed_set, same};
 use mapping::Mapping;
 use memory::{Cause, Fault, Memory};
@@ -32,6 +33,16 @@ pub(crate) fn standing(first: u64, cells: u64, at: u64, marks: &[Mark]) -> Piece
     }
 }
 
+// What is due of a window, and of the memory at the bottom.
+#[derive(Drop)]
+pub(crate) struct Model<'a> {
+    // the size of the image
+    pub(crate) image: u64,
+    pub(crate) pieces: &'a [Piece<'a>],
+    // the bytes of the memory, as the calls until now leave them
+    pub(crate) bytes: Vec<u8>,
+}
+
 // The lengths of the runs that begin at each start.
 const LENGTHS: [usize; 9] = [0, 1, 3, 4, 5, 33, 64, 128, 129];
 
@@ -53,95 +64,83 @@ fn place_of(pieces: &[Piece], s: u64) -> Result<u64, Fault> {
 }
 
 // The answer that is due of a run.
-fn answer_of(image: u64, pieces: &[Piece], a: u64, n: usize) -> Result<(), Fault> {
+fn answer_of(model: &Model, a: u64, n: usize) -> Answer {
     let n = n as u64;
     if n == 0 || n > 128 - a % 128 {
-        return Err(Fault::here(Cause::BadRun, a));
+        return here(Cause::BadRun, a);
     }
-    if a >= image {
-        return Err(Fault::here(Cause::PastEnd, a));
+    if a >= model.image {
+        return here(Cause::PastEnd, a);
     }
     for i in 0..n {
-        place_of(pieces, a.saturating_add(i))?;
+        place_of(model.pieces, a.saturating_add(i))?;
     }
     Ok(())
 }
 
-fn set_bits(model: &mut [u8], a: u64, bits: u8) {
-    if let Some(byte) = model.get_mut(a as usize) {
-        *byte |= bits;
-    }
-}
-
-// A read, which brings the bytes of the model, and sets marks in it.
-fn check_read<W: Memory>(
-    heap: Global,
-    window: &mut W,
-    image: u64,
-    pieces: &[Piece],
-    model: &mut [u8],
-    a: u64,
-    n: usize,
-) -> Result<(), Fail>
-    requires { W.coherent window.old }
-    ensures { W.coherent window.new }
-{
+// The bytes of a buffer before its call. Those that a write puts differ from one to the next.
+fn buffer_of(heap: Global, call: Call, a: u64, n: usize) -> Result<Vec<u8>, Fail> {
     let mut buffer = vec![in heap; FILL; n]?;
-    let found = window.read(a, &mut buffer);
-    same(found, answer_of(image, pieces, a, n))?;
-    if found.is_err() {
-        return same(buffer.iter().all(|byte| *byte == FILL), true);
-    }
-    for (i, byte) in (0..).zip(&buffer) {
-        let s = a.saturating_add(i);
-        let at = place_of(pieces, s).unwrap_or(u64::MAX);
-        same(model.get(at as usize), Some(byte))?;
-        if let Some(piece) = piece_of(pieces, s) {
-            for (entry, referenced, _) in piece.marks {
-                set_bits(model, *entry, *referenced);
-            }
+    if let Call::Write = call {
+        let [.., mut next] = a.wrapping_mul(37).wrapping_add(n as u64).to_be_bytes();
+        for byte in &mut buffer {
+            next = next.wrapping_add(5);
+            *byte = next;
         }
     }
-    Ok(())
+    Ok(buffer)
 }
 
-// A write, which changes the bytes of the model alike.
-fn check_write<W: Memory>(
+// One call. An accepted read brings the bytes of the model, an accepted write changes them alike, and each sets marks in them.
+fn check_run<W: Memory>(
     heap: Global,
     window: &mut W,
-    image: u64,
-    pieces: &[Piece],
-    model: &mut [u8],
+    model: &mut Model,
+    call: Call,
     a: u64,
     n: usize,
 ) -> Result<(), Fail>
     requires { W.coherent window.old }
     ensures { W.coherent window.new }
 {
-    let mut bytes = vec![in heap; 0u8; n]?;
-    let [.., mut next] = a.wrapping_mul(37).wrapping_add(n as u64).to_be_bytes();
-    for byte in &mut bytes {
-        next = next.wrapping_add(5);
-        *byte = next;
-    }
-    let found = window.write(a, &bytes);
-    same(found, answer_of(image, pieces, a, n))?;
-    if found.is_err() {
+    let mut buffer = buffer_of(heap, call, a, n)?;
+    let answer = answer_of(model, a, n);
+    check_call(heap, window, call, a, &mut buffer, answer)?;
+    if answer.is_err() {
         return Ok(());
     }
-    for (i, byte) in (0..).zip(&bytes) {
-        let s = a.saturating_add(i);
-        let at = place_of(pieces, s).unwrap_or(u64::MAX);
-        if let Some(cell) = model.get_mut(at as usize) {
-            *cell = *byte;
-        }
-        if let Some(piece) = piece_of(pieces, s) {
-            for (entry, _, modified) in piece.marks {
-                set_bits(model, *entry, *modified);
-            }
+    for (i, byte) in (0..).zip(&buffer) {
+        check_cell(model, call, a.saturating_add(i), *byte)?;
+    }
+    Ok(())
+}
+
+// A cell of an accepted run, and the byte that was read or written there.
+fn check_cell(model: &mut Model, call: Call, s: u64, byte: u8) -> Result<(), Fail> {
+    let at = place_of(model.pieces, s).unwrap_or(u64::MAX);
+    let Some(cell) = model.bytes.get_mut(at as usize) else {
+        return Err(Fail::new("a cell stands outside the memory"));
+    };
+    match call {
+        Call::Read => same(*cell, byte)?,
+        Call::Write => *cell = byte,
+    }
+    if let Some(piece) = piece_of(model.pieces, s) {
+        for (entry, referenced, modified) in piece.marks {
+            let bits = match call {
+                Call::Read => *referenced,
+                Call::Write => *modified,
+            };
+            set_bits(&mut model.bytes, *entry, bits);
         }
     }
     Ok(())
+}
+
+fn set_bits(bytes: &mut [u8], a: u64, bits: u8) {
+    if let Some(byte) = bytes.get_mut(a as usize) {
+        *byte |= bits;
+    }
 }
 
 // The runs from every start in a line, on one window.
@@ -149,34 +148,31 @@ pub(crate) fn sweep_line<P: Mapping, M: Memory + Drop>(
     heap: Global,
     registers: [u64; 5],
     below: M,
-    pieces: &[Piece],
-    model: &mut [u8],
+    model: &mut Model,
     line: u64,
 ) -> Result<(), Fail>
     requires { M.coherent below }
 {
     let set = armed_set::<P>(&registers)?;
     let mut window = Window::open(set, below, &mut [0; 8]);
-    same(window.size(), registers[0])?;
-    check_line(heap, &mut window, pieces, model, line)
+    same(window.size(), model.image)?;
+    check_line(heap, &mut window, model, line)
 }
 
 fn check_line<W: Memory>(
     heap: Global,
     window: &mut W,
-    pieces: &[Piece],
-    model: &mut [u8],
+    model: &mut Model,
     line: u64,
 ) -> Result<(), Fail>
     requires { W.coherent window.old }
     ensures { W.coherent window.new }
 {
-    let image = window.size();
     for offset in 0..128 {
         let a = line.saturating_add(offset);
         for n in LENGTHS {
-            check_read(heap, window, image, pieces, model, a, n)?;
-            check_write(heap, window, image, pieces, model, a, n)?;
+            check_run(heap, window, model, Call::Read, a, n)?;
+            check_run(heap, window, model, Call::Write, a, n)?;
         }
     }
     Ok(())
@@ -190,11 +186,15 @@ pub(crate) fn sweep<P: Mapping>(
     lines: &[u64],
 ) -> Result<(), Fail> {
     let mut bytes = scene_bytes::<CellsAlone>(heap, PLAIN_BYTES, scene)?;
-    let mut model = bytes.to_vec(heap)?;
+    let mut model = Model {
+        image: scene.registers[0],
+        pieces,
+        bytes: bytes.to_vec(heap)?,
+    };
     for line in lines {
         let memory = Plain::new(&mut bytes);
-        sweep_line::<P, Plain>(heap, scene.registers, memory, pieces, &mut model, *line)?;
-        same(bytes == model, true)?;
+        sweep_line::<P, Plain>(heap, scene.registers, memory, &mut model, *line)?;
+        same(bytes == model.bytes, true)?;
     }
     Ok(())
 }

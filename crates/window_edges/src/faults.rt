@@ -113,10 +113,10 @@ fn check_flipped(heap: Global, at: usize, cases: &[(&[Entry], Answer)]) -> Resul
     Ok(())
 }
 
-// A line that fails its check has no live entry. The table's two lines are borrowed from 32 × 129 = 4128 and from 4257 on.
+// A line that fails its check has no live entry. The table's two lines are borrowed from 32 × 129 = 4128 and from 4257 on. Each fails by a
+// cell, and by the check byte.
 #[test]
-fn failed_checks(rt: HostRuntime) -> Result<(), Fail> {
-    // the first line: a cell, and the check byte
+fn failed_check_of_the_first_line(rt: HostRuntime) -> Result<(), Fail> {
     for at in [4128, 4256] {
         check_flipped(
             rt.alloc(),
@@ -130,7 +130,11 @@ fn failed_checks(rt: HostRuntime) -> Result<(), Fail> {
             ],
         )?;
     }
-    // the second line
+    Ok(())
+}
+
+#[test]
+fn failed_check_of_the_second_line(rt: HostRuntime) -> Result<(), Fail> {
     for at in [4257, 4385] {
         check_flipped(
             rt.alloc(),
@@ -143,7 +147,12 @@ fn failed_checks(rt: HostRuntime) -> Result<(), Fail> {
             ],
         )?;
     }
-    // the lines before and after the table
+    Ok(())
+}
+
+// In the lines before and after the table.
+#[test]
+fn failed_check_beside_the_table(rt: HostRuntime) -> Result<(), Fail> {
     for at in [4127, 4386] {
         check_flipped(
             rt.alloc(),
