@@ -19,7 +19,7 @@ use Rattle.transfer.specs.Effect.{Effect}
 use Rattle.transfer.specs.Call.{tlb_after, below_called, tlb_called}
 use Rattle.transfer.proofs.Effects.{effect_of}
 use Rattle.transfer.proofs.Counting.{count_of}
-use Rattle.transfer.proofs.Callings.{read_unchanged, write_refused}
+use Rattle.transfer.proofs.Callings.{read_unchanged, write_unchanged}
 use Rattle.window.specs.State.{Called}
 
 module _ (m : Meaning) (a : ℕ) (f : Fault) where
@@ -64,6 +64,6 @@ module _ {Same Reach : Type 0} (same : Same) (reach : Reach) (l : Layout) (m : M
   pub write_not_taken : (is_open : Bool) → (is_open ≡ true → Ready l m h) → (bs : List ℕ) → check_run (shown is_open l m).size a (length bs) ≡ Err f → Called Same Reach is_open l m m h h (writing a bs)
   write_not_taken true ready bs bad =
       called same reach true l m m h h (writing a bs) ready
-      (write_refused l m a bs f (write_outside (windowed l m) a f (length bs) bad))
+      (write_unchanged l m a bs f (write_outside (windowed l m) a f (length bs) bad))
       (tlb_outside l m _ a (length bs) h f bad)
   write_not_taken false ready bs bad = called same reach false l m m h h (writing a bs) ready refl refl
