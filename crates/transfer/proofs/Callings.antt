@@ -5,7 +5,7 @@ use mathlib.Core.Path.{fun_ext}
 use Rattle.std.specs.Result.{result_map_both}
 use Rattle.std.proofs.lemmas.List.{length-take}
 use Rattle.memory.specs.declared.fault.Fault.{Fault}
-use Rattle.memory.specs.Meaning.{Meaning, WellFormed}
+use Rattle.memory.specs.Meaning.{Meaning}
 use Rattle.memory.specs.Run.{check_run}
 use Rattle.memory.specs.Calls.{first_fault, read_answer, write_answer, bytes, delivered, stored, written}
 use Rattle.memory.proofs.Runs.{run_taken}
@@ -14,7 +14,6 @@ use Rattle.mapping.specs.Rules.{Layout}
 use Rattle.page_table.specs.declared.tlb.Tlb.{Tlb}
 use Rattle.page_table.specs.Table.{table_of}
 use Rattle.page_table.specs.Walk.{walked, viewed, windowed}
-use Rattle.page_table.specs.Ready.{Ready}
 use Rattle.walk.specs.declared.spot.Spot.{Spot}
 use Rattle.walk.specs.declared.marks.Access.{Access}
 use Rattle.walk.specs.declared.marks.Access.TheVariants.{Read, Write}
@@ -89,7 +88,7 @@ module _ {l : Layout} {m : Meaning} {a n : ℕ} {h : Tlb} {r : Result ℕ Fault}
     pub write_accepted : write_answer (windowed l m) a n ≡ Ok tt
     write_accepted = writes_as_reads (windowed l m) a n ∙ accepted
 
-    pub all_spotted : Spotted l m a n (take (count - 0) spots)
+    all_spotted : Spotted l m a n (take (count - 0) spots)
     all_spotted = subst (λ k. Spotted l m a n (take k spots)) (sym (sub-zero count)) (subst (λ r. IfOk r (λ count. Spotted l m a n (take count spots))) good x.spotted)
 
     pub tlb_accepted : (access : Access) (after : Tlb) → after ≡ refreshed_pages access (pages_in count spots) new → after ≡ tlb_after l m access a n h
@@ -98,7 +97,7 @@ module _ {l : Layout} {m : Meaning} {a n : ℕ} {h : Tlb} {r : Result ℕ Fault}
         rw (x.taken, accepted) (is ∙ ap (refreshed_pages access (pages_in count spots)) x.looked ∙ ap (λ ks. refreshed_pages access ks (lookups_of l m a n h)) all_spotted.pages)
 
     -- the memory after the marks
-    pub marks : (access : Access) (after : Meaning) → after ≡ marked_pages (table_of l) access (pages_in count spots) now → after ≡ marked_run l access a n m
+    marks : (access : Access) (after : Meaning) → after ≡ marked_pages (table_of l) access (pages_in count spots) now → after ≡ marked_run l access a n m
     marks access after is =
         is ∙ ap (marked_pages (table_of l) access (pages_in count spots)) x.same ∙ ap (λ ks. marked_pages (table_of l) access ks m) all_spotted.pages
 
@@ -114,7 +113,8 @@ module _ {l : Layout} {m : Meaning} {a n : ℕ} {h : Tlb} {r : Result ℕ Fault}
     }
 
 -- what a buffer holds
-pub buffer_after : {l : Layout} {m : Meaning} {a : ℕ} {h : Tlb} {r : Result ℕ Fault} {now : Meaning} {new : Tlb} {line : List ℕ} {spots : List Spot} (b : List ℕ) → GatheredRun l m a (length b) h r now new line spots
+pub buffer_after : {l : Layout} {m : Meaning} {a : ℕ} {h : Tlb} {r : Result ℕ Fault} {now : Meaning} {new : Tlb} {line : List ℕ} {spots : List Spot} (b : List ℕ)
+    → GatheredRun l m a (length b) h r now new line spots
     → (c : List ℕ) → c ≡ cond (is_ok r) line b → c ≡ delivered (windowed l m) a b
 buffer_after {l} {m} {a} {h} {r} {now} {new} {line} {spots} b x c is = by r refl where
   by : (s : Result ℕ Fault) → r ≡ s → c ≡ delivered (windowed l m) a b
@@ -122,7 +122,8 @@ buffer_after {l} {m} {a} {h} {r} {now} {new} {line} {spots} b x c is = by r refl
   by (Err f) e = is ∙ rw (e, refused x f e) refl
 
 -- what a write leaves below, and of the window
-module _ {l : Layout} {m : Meaning} {a : ℕ} {h : Tlb} {r : Result ℕ Fault} {now : Meaning} {new : Tlb} {line : List ℕ} {spots : List Spot} (bs : List ℕ) (x : GatheredRun l m a (length bs) h r now new line spots) where
+module _ {l : Layout} {m : Meaning} {a : ℕ} {h : Tlb} {r : Result ℕ Fault} {now : Meaning} {new : Tlb} {line : List ℕ} {spots : List Spot}
+    (bs : List ℕ) (x : GatheredRun l m a (length bs) h r now new line spots) where
   pub below_write_refused : (f : Fault) → r ≡ Err f → now ≡ below_after_write l m a bs
   below_write_refused f bad = x.same ∙ write_unchanged l m a bs f (write_refused x f bad)
 
@@ -137,17 +138,3 @@ module _ {l : Layout} {m : Meaning} {a : ℕ} {h : Tlb} {r : Result ℕ Fault} {
     pub window_accepted : windowed l marked ≡ windowed l now → windowed l after ≡ written (windowed l m) a bs
     window_accepted stands =
         all.window ∙ ap (λ w. stored w a bs) (stands ∙ ap (windowed l) x.same) ∙ sym (written_accepted (windowed l m) a bs (write_accepted x count good))
-
--- what stays ready
-pub ready_scattered : (l : Layout) (m n : Meaning) (h : Tlb) (a : ℕ) (bs : List ℕ) → Ready l m h → WellFormed n → ScatteredAll l m a bs n → Ready l n h
-ready_scattered l m n h a bs ready formed all = record {
-  lawful = ready.lawful;
-  formed = formed;
-  table = all.table;
-  holds = record {
-    entry = λ k e is. all.entries k (ready.holds.low k e is) ∙ ready.holds.entry k e is;
-    live = ready.holds.live;
-    low = ready.holds.low;
-  };
-  steady = ready.steady;
-}

@@ -137,13 +137,21 @@ module _ {l : Layout} {m : Meaning} {before : Tlb} {a n done : ℕ} {h : Tlb} {l
   st : Step l.grain a n done step
   st = step_is l.grain a n done step (omega (arith, x.lawful.grain_least)) x.more x.is
 
-  answered : first_fault (viewed l m) a n ≡ result_and (first_fault (viewed l m) (a + done) step) (first_fault (viewed l m) (a + done + step) (n - (done + step)))
-  answered = f.read_answer ∙ ap (first_fault (viewed l m) (a + done)) st.left ∙ faults_split (viewed l m) (a + done) step (n - (done + step))
+  -- the answer of the run and its lookups, by the answer of the part
+  answered : (r : Result (Unit {0}) Fault)
+      → first_fault (viewed l m) (a + done) step ≡ r
+      → first_fault (viewed l m) a n ≡ result_and r (first_fault (viewed l m) (a + done + step) (n - (done + step)))
+  answered r is =
+      f.read_answer ∙ ap (first_fault (viewed l m) (a + done)) st.left ∙ faults_split (viewed l m) (a + done) step (n - (done + step))
+      ∙ ap (λ r. result_and r (first_fault (viewed l m) (a + done + step) (n - (done + step)))) is
 
-  looks : lookups_of l m a n before ≡ cond (is_ok (first_fault (viewed l m) (a + done) step)) (lookups_of l m (a + done + step) (n - (done + step)) (looked_at l m h (a + done))) (looked_at l m h (a + done))
-  looks =
+  looks : (r : Result (Unit {0}) Fault)
+      → first_fault (viewed l m) (a + done) step ≡ r
+      → lookups_of l m a n before ≡ cond (is_ok r) (lookups_of l m (a + done + step) (n - (done + step)) (looked_at l m h (a + done))) (looked_at l m h (a + done))
+  looks r is =
       let part : Part l (a + done) step = record { some = st.some; grain = st.grain; inside = omega (arith, st.room, x.image) } in
       f.lookups ∙ ap (λ i. lookups_of l m (a + done) i h) st.left ∙ tally_grain l m (a + done) step (n - (done + step)) h part st.end
+      ∙ ap (λ r. cond (is_ok r) (lookups_of l m (a + done + step) (n - (done + step)) (looked_at l m h (a + done))) (looked_at l m h (a + done))) is
 
   slot_free : count < 32
   slot_free = omega (arith, f.boundary x.more, x.fits)
@@ -162,7 +170,12 @@ module _ {l : Layout} {m : Meaning} {before : Tlb} {a n done : ℕ} {h : Tlb} {l
       (λ later. omega (arith, f.boundary x.more, f.aligned (omega (arith, later)) x.more, full, x.lawful.grain_least))
       (cases_eq done 0)
 
-  more_gathered : (part : List ℕ) (spot : Spot) → first_fault (viewed l m) (a + done) step ≡ Ok tt → part ≡ bytes (viewed l m) (a + done) step → spot.page ≡ page_at l (a + done) → walked l m (a + done) ≡ Ok spot.address.0 → Gathered l m before a n (done + step) (looked_at l m h (a + done)) (put_mid done (done + step - done) line part) (count + 1) (set spots count spot)
+  more_gathered : (part : List ℕ) (spot : Spot)
+      → first_fault (viewed l m) (a + done) step ≡ Ok tt
+      → part ≡ bytes (viewed l m) (a + done) step
+      → spot.page ≡ page_at l (a + done)
+      → walked l m (a + done) ≡ Ok spot.address.0
+      → Gathered l m before a n (done + step) (looked_at l m h (a + done)) (put_mid done (done + step - done) line part) (count + 1) (set spots count spot)
   more_gathered part spot good new page place =
       let same : done + step - done ≡ step = omega arith in
       let long : length part ≡ step = ap length new ∙ length_bytes (viewed l m) (a + done) step in
@@ -170,9 +183,10 @@ module _ {l : Layout} {m : Meaning} {before : Tlb} {a n done : ℕ} {h : Tlb} {l
       record {
         far = st.room;
         long = ap length (overlaid_part line part done (done + step - done) (same ∙ sym long)) ∙ length_overlaid line part done (omega (arith, f.long, long, st.room)) ∙ f.long;
-        read_answer = answered ∙ ap (λ r. result_and r (first_fault (viewed l m) (a + done + step) (n - (done + step)))) good ∙ ap (λ b. first_fault (viewed l m) b (n - (done + step))) at;
-        front = take-put_mid done (done + step - done) line part (done + step) (omega (arith, long)) (omega (arith, f.long, st.room)) ∙ ap (λ xs. xs ++ part) f.front ∙ ap (λ xs. bytes (viewed l m) a done ++ xs) new ∙ sym (bytes_split (viewed l m) a done step);
-        lookups = looks ∙ ap (λ r. cond (is_ok r) (lookups_of l m (a + done + step) (n - (done + step)) (looked_at l m h (a + done))) (looked_at l m h (a + done))) good ∙ ap (λ b. lookups_of l m b (n - (done + step)) (looked_at l m h (a + done))) at;
+        read_answer = answered (Ok tt) good ∙ ap (λ b. first_fault (viewed l m) b (n - (done + step))) at;
+        front = take-put_mid done (done + step - done) line part (done + step) (omega (arith, long)) (omega (arith, f.long, st.room))
+            ∙ ap (λ xs. xs ++ part) f.front ∙ ap (λ xs. bytes (viewed l m) a done ++ xs) new ∙ sym (bytes_split (viewed l m) a done step);
+        lookups = looks (Ok tt) good ∙ ap (λ b. lookups_of l m b (n - (done + step)) (looked_at l m h (a + done))) at;
         pages = over_more l.grain (and_then (page_at l)) a n [] done step (page_list (take count spots)) st f.pages
             ∙ ap (over_parts l.grain (and_then (page_at l)) true (a + (done + step)) (n - (done + step))) (ap (λ k. page_list (take count spots) ++ (k ∷ [])) (sym page) ∙ sym (noted_spot (λ s. s.page) spot));
         places = over_more l.grain (and_then (walked l m)) a n [] done step (place_list (take count spots)) st f.places
@@ -186,37 +200,45 @@ module _ {l : Layout} {m : Meaning} {before : Tlb} {a n done : ℕ} {h : Tlb} {l
       }
 
   -- by what its gathering answers and leaves, over a memory that means the same
-  module _ (now : Meaning) (same : now ≡ m) (r : Result Spot Fault) (is : result_map_both (λ _. tt) (λ f. f) r ≡ first_fault (viewed l now) (a + done) (length (part_of done step line))) (new : Tlb) (looked : new ≡ looked_at l now h (a + done)) where
+  module _ (now : Meaning) (same : now ≡ m) (r : Result Spot Fault)
+      (is : result_map_both (λ _. tt) (λ f. f) r ≡ first_fault (viewed l now) (a + done) (length (part_of done step line))) (new : Tlb) (looked : new ≡ looked_at l now h (a + done)) where
     long : length (part_of done step line) ≡ step
     long = simp (length-take, length-drop) (omega (arith, f.long, st.room))
 
-    said : result_map_both (λ _. tt) (λ f. f) r ≡ first_fault (viewed l m) (a + done) step
-    said = is ∙ ap (λ y. first_fault (viewed l y) (a + done) (length (part_of done step line))) same ∙ ap (first_fault (viewed l m) (a + done)) long
+    said : (s : Result Spot Fault) → r ≡ s → first_fault (viewed l m) (a + done) step ≡ result_map_both (λ _. tt) (λ f. f) s
+    said s e =
+        sym (is ∙ ap (λ y. first_fault (viewed l y) (a + done) (length (part_of done step line))) same ∙ ap (first_fault (viewed l m) (a + done)) long)
+        ∙ ap (result_map_both (λ _. tt) (λ f. f)) e
 
     look : new ≡ looked_at l m h (a + done)
     look = looked ∙ ap (λ y. looked_at l y h (a + done)) same
 
     pub gathered_refused : (e : Fault) → r ≡ Err e → Err e ≡ first_fault (viewed l m) a n
-    gathered_refused e bad =
-        let fails = sym said ∙ ap (result_map_both (λ _. tt) (λ f. f)) bad in
-        sym (answered ∙ ap (λ r. result_and r (first_fault (viewed l m) (a + done + step) (n - (done + step)))) fails)
+    gathered_refused e bad = sym (answered (Err e) (said (Err e) bad))
 
     pub lookups_refused : (e : Fault) → r ≡ Err e → new ≡ lookups_of l m a n before
-    lookups_refused e bad =
-        let fails = sym said ∙ ap (result_map_both (λ _. tt) (λ f. f)) bad in
-        look ∙ sym (looks ∙ ap (λ r. cond (is_ok r) (lookups_of l m (a + done + step) (n - (done + step)) (looked_at l m h (a + done))) (looked_at l m h (a + done))) fails)
+    lookups_refused e bad = look ∙ sym (looks (Err e) (said (Err e) bad))
 
-    pub gathered_more : (spot : Spot) → r ≡ Ok spot → (part : List ℕ) → part ≡ bytes (viewed l now) (a + done) (length (part_of done step line)) → spot.page ≡ page_at l (a + done) → walked l now (a + done) ≡ Ok spot.address.0 → Gathered l m before a n (done + step) new (put_mid done (done + step - done) line part) (count + 1) (set spots count spot)
+    pub gathered_more : (spot : Spot)
+        → r ≡ Ok spot
+        → (part : List ℕ)
+        → part ≡ bytes (viewed l now) (a + done) (length (part_of done step line))
+        → spot.page ≡ page_at l (a + done)
+        → walked l now (a + done) ≡ Ok spot.address.0
+        → Gathered l m before a n (done + step) new (put_mid done (done + step - done) line part) (count + 1) (set spots count spot)
     gathered_more spot good part brought page place = subst
         (λ t. Gathered l m before a n (done + step) t (put_mid done (done + step - done) line part) (count + 1) (set spots count spot))
         (sym look)
         (more_gathered part spot
-        (sym said ∙ ap (result_map_both (λ _. tt) (λ f. f)) good)
+        (said (Ok spot) good)
         (brought ∙ ap (λ y. bytes (viewed l y) (a + done) (length (part_of done step line))) same ∙ ap (bytes (viewed l m) (a + done)) long)
         page
         (sym (ap (λ y. walked l y (a + done)) same) ∙ place))
 
-pub gathered_all : {l : Layout} {m : Meaning} {before : Tlb} {a n done : ℕ} {h : Tlb} {line : List ℕ} {count : ℕ} {spots : List Spot} → Gathered l m before a n done h line count spots → n ≤ done → (first_fault (viewed l m) a n ≡ Ok tt) × (line ≡ bytes (viewed l m) a n) × (h ≡ lookups_of l m a n before) × Spotted l m a n (take count spots)
+pub gathered_all : {l : Layout} {m : Meaning} {before : Tlb} {a n done : ℕ} {h : Tlb} {line : List ℕ} {count : ℕ} {spots : List Spot}
+    → Gathered l m before a n done h line count spots
+    → n ≤ done
+    → (first_fault (viewed l m) a n ≡ Ok tt) × (line ≡ bytes (viewed l m) a n) × (h ≡ lookups_of l m a n before) × Spotted l m a n (take count spots)
 unfolding first_fault lookups_from
 gathered_all {l} {m} {before} {a} {n} {done} {h} {line} {count} {spots} f all =
     let same : done ≡ n = omega (arith, f.far) in
