@@ -2,7 +2,7 @@
 use Rattle.std.proofs.Common.{◌≡◌, ℕ, zero, suc, ◌+◌, ◌-◌, ◌*◌, ◌/◌, ◌%◌, ◌<◌, ◌≤◌, min, true, cond, List, [], ◌∷◌, ◌++◌, map, length, take, drop, set, is_ok, is_some, Ok, Err, Result, sym, refl, ap, ◌∙◌, subst, ⊎_elim, add-zero, suc-add, suc-mul, zero-add, div-add-mod', arith}
 use native.Mathlib.Nat.{sub-zero, mul-mod_left, mod-le, zero-mod}
 use borrow.Rule.Slice.PartMut.{put_mid}
-use Rattle.std.specs.Result.{result_and}
+use Rattle.std.specs.Result.{result_and, result_map_both}
 use Rattle.std.proofs.lemmas.Slice.{take-put_mid}
 use Rattle.std.proofs.Math.Seq.{take-suc-set}
 use Rattle.std.proofs.lemmas.List.{take_all, length-take, length-drop, length-set, map-append}
@@ -117,28 +117,44 @@ gathered_none l m h a line spots room = record {
   live = tt;
 }
 
--- what the test of a step gives
-module _ (l : Layout) (laws : Lawful l) (m : Meaning) (before : Tlb) (a n done : ℕ) (h : Tlb) (line : List ℕ) (count : ℕ) (spots : List Spot) (f : Gathered l m before a n done h line count spots) (more : done < n) (fits : a % 128 + n ≤ 128) (image : a + n ≤ l.image_size) (step : ℕ) (is : step ≡ min (l.grain - (a + done) % l.grain) (n - done)) where
-  pub st : Step l.grain a n done step
-  st = step_is l.grain a n done step (omega (arith, laws.grain_least)) more is
+-- the part of step bytes that is gathered next
+pub record NextPart (l : Layout) (m : Meaning) (before : Tlb) (a n done : ℕ) (h : Tlb) (line : List ℕ) (count : ℕ) (spots : List Spot) (step : ℕ) : Type 0 where
+  pub lawful : Lawful l
+  pub so_far : Gathered l m before a n done h line count spots
+  pub more : done < n
+  pub fits : a % 128 + n ≤ 128
+  pub image : a + n ≤ l.image_size
+  pub is : step ≡ min (l.grain - (a + done) % l.grain) (n - done)
 
-  pub step_part : Part l (a + done) step
-  step_part = record { some = st.some; grain = st.grain; inside = omega (arith, st.room) }
+-- its place in the line
+abbrev pub part_of : ℕ → ℕ → List ℕ → List ℕ
+part_of done step line = take (done + step - done) (drop done line)
 
-  answered : first_fault (viewed l m) a n ≡ result_and (first_fault (viewed l m) (a + done) step) (first_fault (viewed l m) (a + done + step) (n - (done + step)))
-  answered = f.read_answer ∙ ap (first_fault (viewed l m) (a + done)) st.left ∙ faults_split (viewed l m) (a + done) step (n - (done + step))
+module _ {l : Layout} {m : Meaning} {before : Tlb} {a n done : ℕ} {h : Tlb} {line : List ℕ} {count : ℕ} {spots : List Spot} {step : ℕ} (x : NextPart l m before a n done h line count spots step) where
+  f : Gathered l m before a n done h line count spots
+  f = x.so_far
 
-  looks : lookups_of l m a n before ≡ cond (is_ok (first_fault (viewed l m) (a + done) step)) (lookups_of l m (a + done + step) (n - (done + step)) (looked_at l m h (a + done))) (looked_at l m h (a + done))
-  looks = f.lookups ∙ ap (λ i. lookups_of l m (a + done) i h) st.left ∙ tally_grain l m (a + done) step (n - (done + step)) h step_part st.end
+  st : Step l.grain a n done step
+  st = step_is l.grain a n done step (omega (arith, x.lawful.grain_least)) x.more x.is
 
-  pub gathered_refused : (x : Fault) → first_fault (viewed l m) (a + done) step ≡ Err x → first_fault (viewed l m) a n ≡ Err x
-  gathered_refused x bad = answered ∙ ap (λ r. result_and r (first_fault (viewed l m) (a + done + step) (n - (done + step)))) bad
+  -- the answer of the run and its lookups, by the answer of the part
+  answered : (r : Result (Unit {0}) Fault)
+      → first_fault (viewed l m) (a + done) step ≡ r
+      → first_fault (viewed l m) a n ≡ result_and r (first_fault (viewed l m) (a + done + step) (n - (done + step)))
+  answered r is =
+      f.read_answer ∙ ap (first_fault (viewed l m) (a + done)) st.left ∙ faults_split (viewed l m) (a + done) step (n - (done + step))
+      ∙ ap (λ r. result_and r (first_fault (viewed l m) (a + done + step) (n - (done + step)))) is
 
-  pub lookups_refused : (x : Fault) → first_fault (viewed l m) (a + done) step ≡ Err x → lookups_of l m a n before ≡ looked_at l m h (a + done)
-  lookups_refused x bad = looks ∙ ap (λ r. cond (is_ok r) (lookups_of l m (a + done + step) (n - (done + step)) (looked_at l m h (a + done))) (looked_at l m h (a + done))) bad
+  looks : (r : Result (Unit {0}) Fault)
+      → first_fault (viewed l m) (a + done) step ≡ r
+      → lookups_of l m a n before ≡ cond (is_ok r) (lookups_of l m (a + done + step) (n - (done + step)) (looked_at l m h (a + done))) (looked_at l m h (a + done))
+  looks r is =
+      let part : Part l (a + done) step = record { some = st.some; grain = st.grain; inside = omega (arith, st.room, x.image) } in
+      f.lookups ∙ ap (λ i. lookups_of l m (a + done) i h) st.left ∙ tally_grain l m (a + done) step (n - (done + step)) h part st.end
+      ∙ ap (λ r. cond (is_ok r) (lookups_of l m (a + done + step) (n - (done + step)) (looked_at l m h (a + done))) (looked_at l m h (a + done))) is
 
-  pub slot_free : count < 32
-  slot_free = omega (arith, f.boundary more)
+  slot_free : count < 32
+  slot_free = omega (arith, f.boundary x.more, x.fits)
 
   -- a spot more in the list
   noted_spot : {A : Type 0} (g : Spot → A) (spot : Spot) → map g (take (count + 1) (set spots count spot)) ≡ map g (take count spots) ++ (g spot ∷ [])
@@ -148,45 +164,83 @@ module _ (l : Layout) (laws : Lawful l) (m : Meaning) (before : Tlb) (a n done :
       ∙ ap (map g) (take-suc-set spots count spot (omega (arith, slot_free, f.room)))
       ∙ map-append g (take count spots) (spot ∷ [])
 
-  line_grain : 4 ≤ l.grain
-  line_grain = laws.grain_least
+  full_part : (a + done) % l.grain + step ≡ l.grain → (count + 1) * 4 ≤ a % 128 + (done + step)
+  full_part full = ⊎_elim
+      (λ first. omega (arith, f.fresh first, low_rest l x.lawful a, full, x.lawful.grain_least, ap (λ d. (a + d) % l.grain) first, ap (λ b. b % l.grain) (add-zero a)))
+      (λ later. omega (arith, f.boundary x.more, f.aligned (omega (arith, later)) x.more, full, x.lawful.grain_least))
+      (cases_eq done 0)
 
-  pub gathered_more : (part : List ℕ) (k : ℕ) (spot : Spot) → k ≡ step → first_fault (viewed l m) (a + done) step ≡ Ok tt → part ≡ bytes (viewed l m) (a + done) step → spot.page ≡ page_at l (a + done) → walked l m (a + done) ≡ Ok spot.address.0 → Gathered l m before a n (done + step) (looked_at l m h (a + done)) (put_mid done k line part) (count + 1) (set spots count spot)
-  gathered_more part k spot same good new page place =
+  more_gathered : (part : List ℕ) (spot : Spot)
+      → first_fault (viewed l m) (a + done) step ≡ Ok tt
+      → part ≡ bytes (viewed l m) (a + done) step
+      → spot.page ≡ page_at l (a + done)
+      → walked l m (a + done) ≡ Ok spot.address.0
+      → Gathered l m before a n (done + step) (looked_at l m h (a + done)) (put_mid done (done + step - done) line part) (count + 1) (set spots count spot)
+  more_gathered part spot good new page place =
+      let same : done + step - done ≡ step = omega arith in
       let long : length part ≡ step = ap length new ∙ length_bytes (viewed l m) (a + done) step in
       let at : a + done + step ≡ a + (done + step) = omega arith in
       record {
         far = st.room;
-        long = ap length (overlaid_part line part done k (same ∙ sym long)) ∙ length_overlaid line part done (omega (arith, f.long, long, st.room)) ∙ f.long;
-        read_answer = answered ∙ ap (λ r. result_and r (first_fault (viewed l m) (a + done + step) (n - (done + step)))) good ∙ ap (λ b. first_fault (viewed l m) b (n - (done + step))) at;
-        front = take-put_mid done k line part (done + step) (omega (arith, long)) (omega (arith, f.long, st.room)) ∙ ap (λ xs. xs ++ part) f.front ∙ ap (λ xs. bytes (viewed l m) a done ++ xs) new ∙ sym (bytes_split (viewed l m) a done step);
-        lookups = looks ∙ ap (λ r. cond (is_ok r) (lookups_of l m (a + done + step) (n - (done + step)) (looked_at l m h (a + done))) (looked_at l m h (a + done))) good ∙ ap (λ b. lookups_of l m b (n - (done + step)) (looked_at l m h (a + done))) at;
+        long = ap length (overlaid_part line part done (done + step - done) (same ∙ sym long)) ∙ length_overlaid line part done (omega (arith, f.long, long, st.room)) ∙ f.long;
+        read_answer = answered (Ok tt) good ∙ ap (λ b. first_fault (viewed l m) b (n - (done + step))) at;
+        front = take-put_mid done (done + step - done) line part (done + step) (omega (arith, long)) (omega (arith, f.long, st.room))
+            ∙ ap (λ xs. xs ++ part) f.front ∙ ap (λ xs. bytes (viewed l m) a done ++ xs) new ∙ sym (bytes_split (viewed l m) a done step);
+        lookups = looks (Ok tt) good ∙ ap (λ b. lookups_of l m b (n - (done + step)) (looked_at l m h (a + done))) at;
         pages = over_more l.grain (and_then (page_at l)) a n [] done step (page_list (take count spots)) st f.pages
-            ∙ ap (over_parts l.grain (and_then (page_at l)) true (a + (done + step)) (n - (done + step))) (ap (λ x. page_list (take count spots) ++ (x ∷ [])) (sym page) ∙ sym (noted_spot (λ s. s.page) spot));
+            ∙ ap (over_parts l.grain (and_then (page_at l)) true (a + (done + step)) (n - (done + step))) (ap (λ k. page_list (take count spots) ++ (k ∷ [])) (sym page) ∙ sym (noted_spot (λ s. s.page) spot));
         places = over_more l.grain (and_then (walked l m)) a n [] done step (place_list (take count spots)) st f.places
-            ∙ ap (over_parts l.grain (and_then (walked l m)) true (a + (done + step)) (n - (done + step))) (ap (λ x. place_list (take count spots) ++ (x ∷ [])) place ∙ sym (noted_spot (λ s. Ok s.address.0) spot));
+            ∙ ap (over_parts l.grain (and_then (walked l m)) true (a + (done + step)) (n - (done + step))) (ap (λ w. place_list (take count spots) ++ (w ∷ [])) place ∙ sym (noted_spot (λ s. Ok s.address.0) spot));
         room = length-set spots count spot ∙ f.room;
         few = omega (arith, slot_free);
         boundary = λ left. ⊎_elim (λ none. absurd (omega arith)) (λ full. full_part full) st.end;
         aligned = λ some left. ⊎_elim (λ none. absurd (omega arith)) (λ full. ap (λ i. i % l.grain) (sym at) ∙ whole_grain l.grain (a + done) step full) st.end;
         fresh = λ none. absurd (omega (arith, st.some));
-        live = subst (LivePages (table_of l) m) (sym (noted_spot (λ s. s.page) spot)) (live_more (table_of l) m (page_list (take count spots)) spot.page f.live (live_here l laws m (a + done) spot page place));
-      } where
-        first_part : done ≡ 0 → (a + done) % l.grain + step ≡ l.grain → (count + 1) * 4 ≤ a % 128 + (done + step)
-        first_part first full = omega (arith, f.fresh first, low_rest l laws a, full, line_grain, ap (λ d. (a + d) % l.grain) first, ap (λ b. b % l.grain) (add-zero a))
+        live = subst (LivePages (table_of l) m) (sym (noted_spot (λ s. s.page) spot)) (live_more (table_of l) m (page_list (take count spots)) spot.page f.live (live_here l x.lawful m (a + done) spot page place));
+      }
 
-        later_part : (done ≡ 0 → ⊥) → (a + done) % l.grain + step ≡ l.grain → 4 ≤ step
-        later_part later full = omega (arith, f.aligned (omega (arith, later)) more, full, line_grain)
+  -- by what its gathering answers and leaves, over a memory that means the same
+  module _ (now : Meaning) (same : now ≡ m) (r : Result Spot Fault)
+      (is : result_map_both (λ _. tt) (λ f. f) r ≡ first_fault (viewed l now) (a + done) (length (part_of done step line))) (new : Tlb) (looked : new ≡ looked_at l now h (a + done)) where
+    long : length (part_of done step line) ≡ step
+    long = simp (length-take, length-drop) (omega (arith, f.long, st.room))
 
-        full_part : (a + done) % l.grain + step ≡ l.grain → (count + 1) * 4 ≤ a % 128 + (done + step)
-        full_part full = ⊎_elim
-            (λ first. first_part first full)
-            (λ later. omega (arith, f.boundary more, later_part later full, line_grain))
-            (cases_eq done 0)
+    said : (s : Result Spot Fault) → r ≡ s → first_fault (viewed l m) (a + done) step ≡ result_map_both (λ _. tt) (λ f. f) s
+    said s e =
+        sym (is ∙ ap (λ y. first_fault (viewed l y) (a + done) (length (part_of done step line))) same ∙ ap (first_fault (viewed l m) (a + done)) long)
+        ∙ ap (result_map_both (λ _. tt) (λ f. f)) e
 
-pub gathered_all : (l : Layout) (m : Meaning) (before : Tlb) (a n done : ℕ) (h : Tlb) (line : List ℕ) (count : ℕ) (spots : List Spot) → Gathered l m before a n done h line count spots → n ≤ done → (first_fault (viewed l m) a n ≡ Ok tt) × (line ≡ bytes (viewed l m) a n) × (h ≡ lookups_of l m a n before) × Spotted l m a n (take count spots)
+    look : new ≡ looked_at l m h (a + done)
+    look = looked ∙ ap (λ y. looked_at l y h (a + done)) same
+
+    pub gathered_refused : (e : Fault) → r ≡ Err e → Err e ≡ first_fault (viewed l m) a n
+    gathered_refused e bad = sym (answered (Err e) (said (Err e) bad))
+
+    pub lookups_refused : (e : Fault) → r ≡ Err e → new ≡ lookups_of l m a n before
+    lookups_refused e bad = look ∙ sym (looks (Err e) (said (Err e) bad))
+
+    pub gathered_more : (spot : Spot)
+        → r ≡ Ok spot
+        → (part : List ℕ)
+        → part ≡ bytes (viewed l now) (a + done) (length (part_of done step line))
+        → spot.page ≡ page_at l (a + done)
+        → walked l now (a + done) ≡ Ok spot.address.0
+        → Gathered l m before a n (done + step) new (put_mid done (done + step - done) line part) (count + 1) (set spots count spot)
+    gathered_more spot good part brought page place = subst
+        (λ t. Gathered l m before a n (done + step) t (put_mid done (done + step - done) line part) (count + 1) (set spots count spot))
+        (sym look)
+        (more_gathered part spot
+        (said (Ok spot) good)
+        (brought ∙ ap (λ y. bytes (viewed l y) (a + done) (length (part_of done step line))) same ∙ ap (bytes (viewed l m) (a + done)) long)
+        page
+        (sym (ap (λ y. walked l y (a + done)) same) ∙ place))
+
+pub gathered_all : {l : Layout} {m : Meaning} {before : Tlb} {a n done : ℕ} {h : Tlb} {line : List ℕ} {count : ℕ} {spots : List Spot}
+    → Gathered l m before a n done h line count spots
+    → n ≤ done
+    → (first_fault (viewed l m) a n ≡ Ok tt) × (line ≡ bytes (viewed l m) a n) × (h ≡ lookups_of l m a n before) × Spotted l m a n (take count spots)
 unfolding first_fault lookups_from
-gathered_all l m before a n done h line count spots f all =
+gathered_all {l} {m} {before} {a} {n} {done} {h} {line} {count} {spots} f all =
     let same : done ≡ n = omega (arith, f.far) in
     let none : n - done ≡ 0 = omega arith in (
       f.read_answer ∙ ap (first_fault (viewed l m) (a + done)) none,
@@ -197,10 +251,3 @@ gathered_all l m before a n done h line count spots f all =
         places = over_all l.grain (and_then (walked l m)) a n [] done (place_list (take count spots)) all f.places;
       },
     )
-
-pub part_long : (line : List ℕ) (done step n : ℕ) → length line ≡ n → done + step ≤ n → length (take (done + step - done) (drop done line)) ≡ step
-part_long line done step n long room = simp (length-take, length-drop) (omega arith)
-
--- the same by another name of the TLB
-pub gathered_as : {l : Layout} {m : Meaning} {before : Tlb} {a n done : ℕ} {h : Tlb} {line : List ℕ} {count : ℕ} {spots : List Spot} (d : Tlb) → d ≡ h → Gathered l m before a n done h line count spots → Gathered l m before a n done d line count spots
-gathered_as {l} {m} {before} {a} {n} {done} {h} {line} {count} {spots} d e f = subst (λ x. Gathered l m before a n done x line count spots) (sym e) f

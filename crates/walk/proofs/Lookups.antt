@@ -15,9 +15,6 @@ use Rattle.page_table.proofs.Entries.{entry_inside}
 use Rattle.walk.specs.Lookup.{taken_in, looked_by, looked}
 
 module _ (t : Table) (m : Meaning) (h : Tlb) (k : ℕ) where
-  pub held_is : (e : Entry) → Holds t m h → Some e ≡ held_entry h k → Ok e ≡ entry_read m (entry_address t k)
-  held_is e holds is = sym (holds.entry k e (sym is))
-
   pub read_is : (r : Result Entry Fault) → entry_address t k + 4 ≤ m.size → r ≡ entry_answer m (entry_address t k) → r ≡ entry_read m (entry_address t k)
   read_is r inside is = is ∙ entry_inside m t k inside
 

@@ -11,7 +11,7 @@ use memory::{Fault, Memory};
 use page_table::{Entry, Table, Tlb, read_entry};
 
 // One lookup: a held entry as it is held; another one is read, and held from then on if it is live.
-#[tactic(auto, using(crate::proofs::Lookups::held_is, crate::proofs::Lookups::read_is, crate::proofs::Lookups::looked_held, crate::proofs::Lookups::looked_read, crate::proofs::Lookups::holds_taken_in, page_table::proofs::Tlbs::holds_counted, memory::proofs::Reaches::only_read_none))]
+#[tactic(auto, using(crate::proofs::Lookups::read_is, crate::proofs::Lookups::looked_held, crate::proofs::Lookups::looked_read, crate::proofs::Lookups::holds_taken_in, memory::proofs::Reaches::only_read_none))]
 pub(crate) fn look_up<M: Memory>(
     below: &mut M,
     tlb: &mut Tlb,

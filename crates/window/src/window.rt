@@ -91,7 +91,9 @@ impl<P: Mapping, M: Memory> Memory for Window<P, M> {
 
     ghost formed = { λ w c. shown_formed (is_ok w.opening) (P.Mapping.meaning w.mapping) (M.Memory.meaning w.below) w.tlb c.ready };
 
-    ghost step = { λ before call after. Called ((after.mapping ≡ before.mapping) × (after.opening ≡ before.opening)) (Reached M.Memory.step before.below after.below) (is_ok before.opening) (P.Mapping.meaning before.mapping) (M.Memory.meaning before.below) (M.Memory.meaning after.below) before.tlb after.tlb call };
+    ghost step = { λ before call after.
+        Called ((after.mapping ≡ before.mapping) × (after.opening ≡ before.opening)) (Reached M.Memory.step before.below after.below)
+        (is_ok before.opening) (P.Mapping.meaning before.mapping) (M.Memory.meaning before.below) (M.Memory.meaning after.below) before.tlb after.tlb call };
 
     // The size of the image; 0 if the window is shut.
     fn size(&self) -> u64 {

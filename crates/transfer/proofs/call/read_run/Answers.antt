@@ -1,127 +1,65 @@
 -- Assumes nothing.
-use Rattle.std.proofs.Common.{◌≡◌, ℕ, ◌-◌, ◌≤◌, map, length, take, Ok, Err, sym, ap, ◌∙◌, rules, arith}
-use Rattle.std.specs.Result.{result_map_both}
-use Rattle.memory.specs.Calls.{read_answer, bytes}
-use Rattle.page_table.specs.Walk.{windowed, viewed}
+use Rattle.std.proofs.Common.{◌≡◌, length, Ok, Err, sym, ◌∙◌, rules}
 use Rattle.memory.specs.declared.access.Access.TheVariants.{Read}
-use Rattle.transfer.specs.Parts.{pages_of, Spotted}
-use Rattle.transfer.specs.Lookups.{lookups_of}
-use Rattle.transfer.proofs.Callings.{front_length, taken_fits, all_spots, gathered_answer, read_unchanged, tlb_refused, read_accepted, tlb_accepted, delivered_refused, delivered_accepted}
+use Rattle.transfer.proofs.Callings.{GatheredRun, gathered_run, refused, tlb_refused, below_read_refused, accepted, tlb_accepted, below_read_accepted, buffer_after}
 use Rattle.transfer.proofs.Reading.{read_only_reached}
+use Rattle.transfer.proofs.call.read_run.Goals.{After-gather-found, In_err-count, In_ok-count}
+use Rattle.transfer.proofs.call.read_run.Given.{Over}
 use Rattle.transfer.proofs.call.read_run.Goals as goal
+
+module _ (g : Over) where
+  gathered : (c : After-gather-found g) → GatheredRun (g.P.Mapping.meaning c.args.mapping.now) (g.M.Memory.meaning c.args.below.now) c.args.a.0 (length c.args.buffer.now) c.args.tlb.now
+      c.gather-found.result (g.M.Memory.meaning c.gather-found.new.below) c.gather-found.new.tlb c.gather-found.new.line c.gather-found.new.spots
+  gathered c =
+      let e = c.gather-found.ensures in
+      gathered_run c.blank_line-line.result c.requires.taken c.blank_line-line.ensures e.answer e.line e.spots e.tlb e.meaning
+
+  bad : (c : In_err-count g) → c.gather-found.result ≡ Err c.in_err-count.field-0.0
+  bad c = search rules
+
+  good : (c : In_ok-count g) → c.gather-found.result ≡ Ok c.in_ok-count.count
+  good c = search rules
 
 pub returns-in_err-count-clause-answer : goal.returns-in_err-count-clause-answer
 returns-in_err-count-clause-answer g c =
-    let l = g.P.Mapping.meaning c.args.mapping.now in
-    let m = g.M.Memory.meaning c.args.below.now in
-    let n : ℕ = length c.args.buffer.now in
-    let a : ℕ = c.args.a.0 in
-    let low : n ≤ 128 = taken_fits l.image_size a n c.requires.taken in
-    let long : length (take (n - 0) c.blank_line-line.result) ≡ n = front_length c.blank_line-line.result n (omega (arith, low, c.blank_line-line.ensures)) in
-    let bad : c.gather.result ≡ Err c.in_err-count.field-0.0 = search rules in
-    let refused : read_answer (windowed l m) a n ≡ Err c.in_err-count.field-0.0 =
-    sym (gathered_answer l m a n c.requires.taken _ _ long c.gather.ensures.answer) ∙ ap (result_map_both (λ _. tt) (λ f. f)) bad in
+    let at = goal.at.returns-in_err-count-clause-answer g c in
     let out : c.from_residual.result ≡ Err c.in_err-count.field-0.0 = search rules in
-    out ∙ sym refused
+    out ∙ sym (refused (gathered g at.After-gather-found) _ (bad g at.In_err-count))
 
 pub returns-in_err-count-clause-buffer : goal.returns-in_err-count-clause-buffer
 returns-in_err-count-clause-buffer g c =
-    let l = g.P.Mapping.meaning c.args.mapping.now in
-    let m = g.M.Memory.meaning c.args.below.now in
-    let n : ℕ = length c.args.buffer.now in
-    let a : ℕ = c.args.a.0 in
-    let low : n ≤ 128 = taken_fits l.image_size a n c.requires.taken in
-    let long : length (take (n - 0) c.blank_line-line.result) ≡ n = front_length c.blank_line-line.result n (omega (arith, low, c.blank_line-line.ensures)) in
-    let bad : c.gather.result ≡ Err c.in_err-count.field-0.0 = search rules in
-    let refused : read_answer (windowed l m) a n ≡ Err c.in_err-count.field-0.0 =
-    sym (gathered_answer l m a n c.requires.taken _ _ long c.gather.ensures.answer) ∙ ap (result_map_both (λ _. tt) (λ f. f)) bad in
-    delivered_refused l m a c.args.buffer.now c.in_err-count.field-0.0 refused
+    let at = goal.at.returns-in_err-count-clause-buffer g c in
+    buffer_after c.args.buffer.now (gathered g at.After-gather-found) _ c.hand_over.ensures.buffer
 
 pub returns-in_err-count-clause-below : goal.returns-in_err-count-clause-below
 returns-in_err-count-clause-below g c =
-    let l = g.P.Mapping.meaning c.args.mapping.now in
-    let m = g.M.Memory.meaning c.args.below.now in
-    let n : ℕ = length c.args.buffer.now in
-    let a : ℕ = c.args.a.0 in
-    let low : n ≤ 128 = taken_fits l.image_size a n c.requires.taken in
-    let long : length (take (n - 0) c.blank_line-line.result) ≡ n = front_length c.blank_line-line.result n (omega (arith, low, c.blank_line-line.ensures)) in
-    let bad : c.gather.result ≡ Err c.in_err-count.field-0.0 = search rules in
-    let refused : read_answer (windowed l m) a n ≡ Err c.in_err-count.field-0.0 =
-    sym (gathered_answer l m a n c.requires.taken _ _ long c.gather.ensures.answer) ∙ ap (result_map_both (λ _. tt) (λ f. f)) bad in
-    c.gather.ensures.meaning ∙ read_unchanged l m a n c.in_err-count.field-0.0 refused
+    let at = goal.at.returns-in_err-count-clause-below g c in
+    below_read_refused (gathered g at.After-gather-found) _ (bad g at.In_err-count)
 
 pub returns-in_err-count-clause-tlb : goal.returns-in_err-count-clause-tlb
 returns-in_err-count-clause-tlb g c =
-    let l = g.P.Mapping.meaning c.args.mapping.now in
-    let m = g.M.Memory.meaning c.args.below.now in
-    let n : ℕ = length c.args.buffer.now in
-    let a : ℕ = c.args.a.0 in
-    let low : n ≤ 128 = taken_fits l.image_size a n c.requires.taken in
-    let long : length (take (n - 0) c.blank_line-line.result) ≡ n = front_length c.blank_line-line.result n (omega (arith, low, c.blank_line-line.ensures)) in
-    let bad : c.gather.result ≡ Err c.in_err-count.field-0.0 = search rules in
-    let refused : read_answer (windowed l m) a n ≡ Err c.in_err-count.field-0.0 =
-    sym (gathered_answer l m a n c.requires.taken _ _ long c.gather.ensures.answer) ∙ ap (result_map_both (λ _. tt) (λ f. f)) bad in
-    c.gather.ensures.tlb ∙ ap (λ k. lookups_of l m a k c.args.tlb.now) long ∙ tlb_refused l m a n c.requires.taken c.in_err-count.field-0.0 refused Read c.args.tlb.now
+    let at = goal.at.returns-in_err-count-clause-tlb g c in
+    tlb_refused (gathered g at.After-gather-found) Read _ (bad g at.In_err-count)
 
 pub returns-clause-answer : goal.returns-clause-answer
 returns-clause-answer g c =
-    let l = g.P.Mapping.meaning c.args.mapping.now in
-    let m = g.M.Memory.meaning c.args.below.now in
-    let n : ℕ = length c.args.buffer.now in
-    let a : ℕ = c.args.a.0 in
-    let low : n ≤ 128 = taken_fits l.image_size a n c.requires.taken in
-    let long : length (take (n - 0) c.blank_line-line.result) ≡ n = front_length c.blank_line-line.result n (omega (arith, low, c.blank_line-line.ensures)) in
-    let good : c.gather.result ≡ Ok c.in_ok-count.count = search rules in
-    let accepted : read_answer (windowed l m) a n ≡ Ok tt =
-    sym (gathered_answer l m a n c.requires.taken _ _ long c.gather.ensures.answer) ∙ ap (result_map_both (λ _. tt) (λ f. f)) good in
-    sym accepted
+    let at = goal.at.returns-clause-answer g c in
+    sym (accepted (gathered g at.After-gather-found) _ (good g at.In_ok-count))
 
 pub returns-clause-buffer : goal.returns-clause-buffer
 returns-clause-buffer g c =
-    let l = g.P.Mapping.meaning c.args.mapping.now in
-    let m = g.M.Memory.meaning c.args.below.now in
-    let n : ℕ = length c.args.buffer.now in
-    let a : ℕ = c.args.a.0 in
-    let low : n ≤ 128 = taken_fits l.image_size a n c.requires.taken in
-    let long : length (take (n - 0) c.blank_line-line.result) ≡ n = front_length c.blank_line-line.result n (omega (arith, low, c.blank_line-line.ensures)) in
-    let good : c.gather.result ≡ Ok c.in_ok-count.count = search rules in
-    let accepted : read_answer (windowed l m) a n ≡ Ok tt =
-    sym (gathered_answer l m a n c.requires.taken _ _ long c.gather.ensures.answer) ∙ ap (result_map_both (λ _. tt) (λ f. f)) good in
-    let line : c.gather.new.line ≡ bytes (viewed l m) a (length (take (n - 0) c.blank_line-line.result)) = search rules in
-    delivered_accepted l m a _ c.args.buffer.now c.copy_from_slice.new.self accepted long (c.copy_from_slice.ensures.after ∙ line)
+    let at = goal.at.returns-clause-buffer g c in
+    buffer_after c.args.buffer.now (gathered g at.After-gather-found) _ c.hand_over.ensures.buffer
 
 pub returns-clause-below : goal.returns-clause-below
 returns-clause-below g c =
-    let l = g.P.Mapping.meaning c.args.mapping.now in
-    let m = g.M.Memory.meaning c.args.below.now in
-    let n : ℕ = length c.args.buffer.now in
-    let a : ℕ = c.args.a.0 in
-    let low : n ≤ 128 = taken_fits l.image_size a n c.requires.taken in
-    let long : length (take (n - 0) c.blank_line-line.result) ≡ n = front_length c.blank_line-line.result n (omega (arith, low, c.blank_line-line.ensures)) in
-    let good : c.gather.result ≡ Ok c.in_ok-count.count = search rules in
-    let accepted : read_answer (windowed l m) a n ≡ Ok tt =
-    sym (gathered_answer l m a n c.requires.taken _ _ long c.gather.ensures.answer) ∙ ap (result_map_both (λ _. tt) (λ f. f)) good in
-    let spotted : Spotted l m a (length (take (n - 0) c.blank_line-line.result)) (take c.in_ok-count.count c.gather.new.spots) = search rules in
-    let pages = ap (map (λ spot. spot.page)) (all_spots c.in_ok-count.count c.gather.new.spots) ∙ spotted.pages ∙ ap (pages_of l a) long in
-    let looked = c.gather.ensures.tlb ∙ ap (λ k. lookups_of l m a k c.args.tlb.now) long in
-    read_accepted l m a n c.requires.taken accepted (g.M.Memory.meaning c.gather.new.below) _ _ c.gather.ensures.meaning pages c.mark_pages.ensures.below
+    let at = goal.at.returns-clause-below g c in
+    below_read_accepted (gathered g at.After-gather-found) _ (good g at.In_ok-count) _ c.mark_pages.ensures.below
 
 pub returns-clause-tlb : goal.returns-clause-tlb
 returns-clause-tlb g c =
-    let l = g.P.Mapping.meaning c.args.mapping.now in
-    let m = g.M.Memory.meaning c.args.below.now in
-    let n : ℕ = length c.args.buffer.now in
-    let a : ℕ = c.args.a.0 in
-    let low : n ≤ 128 = taken_fits l.image_size a n c.requires.taken in
-    let long : length (take (n - 0) c.blank_line-line.result) ≡ n = front_length c.blank_line-line.result n (omega (arith, low, c.blank_line-line.ensures)) in
-    let good : c.gather.result ≡ Ok c.in_ok-count.count = search rules in
-    let accepted : read_answer (windowed l m) a n ≡ Ok tt =
-    sym (gathered_answer l m a n c.requires.taken _ _ long c.gather.ensures.answer) ∙ ap (result_map_both (λ _. tt) (λ f. f)) good in
-    let spotted : Spotted l m a (length (take (n - 0) c.blank_line-line.result)) (take c.in_ok-count.count c.gather.new.spots) = search rules in
-    let pages = ap (map (λ spot. spot.page)) (all_spots c.in_ok-count.count c.gather.new.spots) ∙ spotted.pages ∙ ap (pages_of l a) long in
-    let looked = c.gather.ensures.tlb ∙ ap (λ k. lookups_of l m a k c.args.tlb.now) long in
-    tlb_accepted l m a n c.requires.taken accepted Read c.args.tlb.now c.gather.new.tlb _ _ looked pages c.mark_pages.ensures.tlb
+    let at = goal.at.returns-clause-tlb g c in
+    tlb_accepted (gathered g at.After-gather-found) _ (good g at.In_ok-count) Read _ c.mark_pages.ensures.tlb
 
 pub returns-clause-reached : goal.returns-clause-reached
-returns-clause-reached g c =
-    read_only_reached g.M.Memory.step c.gather.ensures.reads c.mark_pages.ensures.reached
+returns-clause-reached g c = read_only_reached g.M.Memory.step c.gather-found.ensures.reads c.mark_pages.ensures.reached

@@ -1,150 +1,71 @@
 -- Assumes nothing.
-use Rattle.std.proofs.Common.{◌≡◌, ℕ, ◌-◌, ◌≤◌, map, length, take, Ok, Err, sym, ap, subst, ◌∙◌, rules, arith}
-use Rattle.std.specs.Result.{result_map_both}
-use Rattle.memory.specs.Calls.{read_answer}
-use Rattle.memory.proofs.Calls.{writes_as_reads}
+use Rattle.std.proofs.Common.{◌≡◌, length, Ok, Err, sym, ◌∙◌, rules}
 use Rattle.memory.proofs.Reaches.{reached_more}
-use Rattle.page_table.specs.Walk.{walked, windowed}
 use Rattle.memory.specs.declared.access.Access.TheVariants.{Write}
-use Rattle.transfer.specs.Parts.{pages_of, Spotted}
-use Rattle.transfer.specs.Lookups.{lookups_of}
-use Rattle.transfer.proofs.Callings.{front_length, taken_fits, all_spots, gathered_answer, tlb_refused, tlb_accepted, spotted_after, write_refused, window_refused, write_accepted, window_accepted}
+use Rattle.transfer.proofs.Callings.{GatheredRun, gathered_run, write_refused, tlb_refused, below_write_refused, window_refused, write_accepted, tlb_accepted, spotted_after, below_write_accepted, window_accepted}
 use Rattle.transfer.proofs.Reading.{read_only_reached}
+use Rattle.transfer.proofs.call.write_run.Goals.{After-gather, In_err-count, In_ok-count}
+use Rattle.transfer.proofs.call.write_run.Given.{Over}
 use Rattle.transfer.proofs.call.write_run.Goals as goal
+
+module _ (g : Over) where
+  gathered : (c : After-gather g) → GatheredRun (g.P.Mapping.meaning c.args.mapping.now) (g.M.Memory.meaning c.args.below.now) c.args.a.0 (length c.args.bytes.now) c.args.tlb.now
+      c.gather.result (g.M.Memory.meaning c.gather.new.below) c.gather.new.tlb c.gather.new.line c.gather.new.spots
+  gathered c =
+      let e = c.gather.ensures in
+      gathered_run c.blank_line-line.result c.requires.taken c.blank_line-line.ensures e.answer e.line e.spots e.tlb e.meaning
+
+  bad : (c : In_err-count g) → c.gather.result ≡ Err c.in_err-count.field-0.0
+  bad c = search rules
+
+  good : (c : In_ok-count g) → c.gather.result ≡ Ok c.in_ok-count.count
+  good c = search rules
 
 pub returns-in_err-count-clause-answer : goal.returns-in_err-count-clause-answer
 returns-in_err-count-clause-answer g c =
-    let l = g.P.Mapping.meaning c.args.mapping.now in
-    let m = g.M.Memory.meaning c.args.below.now in
-    let n : ℕ = length c.args.bytes.now in
-    let a : ℕ = c.args.a.0 in
-    let low : n ≤ 128 = taken_fits l.image_size a n c.requires.taken in
-    let long : length (take (n - 0) c.blank_line-line.result) ≡ n = front_length c.blank_line-line.result n (omega (arith, low, c.blank_line-line.ensures)) in
-    let bad : c.gather.result ≡ Err c.in_err-count.field-0.0 = search rules in
-    let refused : read_answer (windowed l m) a n ≡ Err c.in_err-count.field-0.0 =
-    sym (gathered_answer l m a n c.requires.taken _ _ long c.gather.ensures.answer) ∙ ap (result_map_both (λ _. tt) (λ f. f)) bad in
+    let at = goal.at.returns-in_err-count-clause-answer g c in
     let out : c.from_residual.result ≡ Err c.in_err-count.field-0.0 = search rules in
-    out ∙ sym (writes_as_reads (windowed l m) a n ∙ refused)
+    out ∙ sym (write_refused (gathered g at.After-gather) _ (bad g at.In_err-count))
 
 pub returns-in_err-count-clause-window : goal.returns-in_err-count-clause-window
 returns-in_err-count-clause-window g c =
-    let l = g.P.Mapping.meaning c.args.mapping.now in
-    let m = g.M.Memory.meaning c.args.below.now in
-    let n : ℕ = length c.args.bytes.now in
-    let a : ℕ = c.args.a.0 in
-    let low : n ≤ 128 = taken_fits l.image_size a n c.requires.taken in
-    let long : length (take (n - 0) c.blank_line-line.result) ≡ n = front_length c.blank_line-line.result n (omega (arith, low, c.blank_line-line.ensures)) in
-    let bad : c.gather.result ≡ Err c.in_err-count.field-0.0 = search rules in
-    let refused : read_answer (windowed l m) a n ≡ Err c.in_err-count.field-0.0 =
-    sym (gathered_answer l m a n c.requires.taken _ _ long c.gather.ensures.answer) ∙ ap (result_map_both (λ _. tt) (λ f. f)) bad in
-    window_refused l m a c.args.bytes.now (g.M.Memory.meaning c.gather.new.below) c.in_err-count.field-0.0 c.gather.ensures.meaning (writes_as_reads (windowed l m) a n ∙ refused)
+    let at = goal.at.returns-in_err-count-clause-window g c in
+    window_refused c.args.bytes.now (gathered g at.After-gather) _ (bad g at.In_err-count)
 
 pub returns-in_err-count-clause-below : goal.returns-in_err-count-clause-below
 returns-in_err-count-clause-below g c =
-    let l = g.P.Mapping.meaning c.args.mapping.now in
-    let m = g.M.Memory.meaning c.args.below.now in
-    let n : ℕ = length c.args.bytes.now in
-    let a : ℕ = c.args.a.0 in
-    let low : n ≤ 128 = taken_fits l.image_size a n c.requires.taken in
-    let long : length (take (n - 0) c.blank_line-line.result) ≡ n = front_length c.blank_line-line.result n (omega (arith, low, c.blank_line-line.ensures)) in
-    let bad : c.gather.result ≡ Err c.in_err-count.field-0.0 = search rules in
-    let refused : read_answer (windowed l m) a n ≡ Err c.in_err-count.field-0.0 =
-    sym (gathered_answer l m a n c.requires.taken _ _ long c.gather.ensures.answer) ∙ ap (result_map_both (λ _. tt) (λ f. f)) bad in
-    c.gather.ensures.meaning ∙ write_refused l m a c.args.bytes.now c.in_err-count.field-0.0 (writes_as_reads (windowed l m) a n ∙ refused)
+    let at = goal.at.returns-in_err-count-clause-below g c in
+    below_write_refused c.args.bytes.now (gathered g at.After-gather) _ (bad g at.In_err-count)
 
 pub returns-in_err-count-clause-tlb : goal.returns-in_err-count-clause-tlb
 returns-in_err-count-clause-tlb g c =
-    let l = g.P.Mapping.meaning c.args.mapping.now in
-    let m = g.M.Memory.meaning c.args.below.now in
-    let n : ℕ = length c.args.bytes.now in
-    let a : ℕ = c.args.a.0 in
-    let low : n ≤ 128 = taken_fits l.image_size a n c.requires.taken in
-    let long : length (take (n - 0) c.blank_line-line.result) ≡ n = front_length c.blank_line-line.result n (omega (arith, low, c.blank_line-line.ensures)) in
-    let bad : c.gather.result ≡ Err c.in_err-count.field-0.0 = search rules in
-    let refused : read_answer (windowed l m) a n ≡ Err c.in_err-count.field-0.0 =
-    sym (gathered_answer l m a n c.requires.taken _ _ long c.gather.ensures.answer) ∙ ap (result_map_both (λ _. tt) (λ f. f)) bad in
-    c.gather.ensures.tlb ∙ ap (λ k. lookups_of l m a k c.args.tlb.now) long ∙ tlb_refused l m a n c.requires.taken c.in_err-count.field-0.0 refused Write c.args.tlb.now
+    let at = goal.at.returns-in_err-count-clause-tlb g c in
+    tlb_refused (gathered g at.After-gather) Write _ (bad g at.In_err-count)
 
 pub returns-clause-answer : goal.returns-clause-answer
 returns-clause-answer g c =
-    let l = g.P.Mapping.meaning c.args.mapping.now in
-    let m = g.M.Memory.meaning c.args.below.now in
-    let n : ℕ = length c.args.bytes.now in
-    let a : ℕ = c.args.a.0 in
-    let low : n ≤ 128 = taken_fits l.image_size a n c.requires.taken in
-    let long : length (take (n - 0) c.blank_line-line.result) ≡ n = front_length c.blank_line-line.result n (omega (arith, low, c.blank_line-line.ensures)) in
-    let good : c.gather.result ≡ Ok c.in_ok-count.count = search rules in
-    let accepted : read_answer (windowed l m) a n ≡ Ok tt =
-    sym (gathered_answer l m a n c.requires.taken _ _ long c.gather.ensures.answer) ∙ ap (result_map_both (λ _. tt) (λ f. f)) good in
-    sym (writes_as_reads (windowed l m) a n ∙ accepted)
+    let at = goal.at.returns-clause-answer g c in
+    sym (write_accepted (gathered g at.After-gather) _ (good g at.In_ok-count))
 
 pub scatter-requires-clause-spots : goal.scatter-requires-clause-spots
 scatter-requires-clause-spots g c =
-    let l = g.P.Mapping.meaning c.args.mapping.now in
-    let m = g.M.Memory.meaning c.args.below.now in
-    let n : ℕ = length c.args.bytes.now in
-    let a : ℕ = c.args.a.0 in
-    let low : n ≤ 128 = taken_fits l.image_size a n c.requires.taken in
-    let long : length (take (n - 0) c.blank_line-line.result) ≡ n = front_length c.blank_line-line.result n (omega (arith, low, c.blank_line-line.ensures)) in
-    let spotted : Spotted l m a (length (take (n - 0) c.blank_line-line.result)) (take c.in_ok-count.count c.gather.new.spots) = search rules in
-    let pages = ap (map (λ spot. spot.page)) (all_spots c.in_ok-count.count c.gather.new.spots) ∙ spotted.pages ∙ ap (pages_of l a) long in
-    let now = g.M.Memory.meaning c.gather.new.below in
-    let after = g.M.Memory.meaning c.mark_pages.new.below in
-    let whole : Spotted l m a n (take (c.in_ok-count.count - 0) c.gather.new.spots) =
-    subst (λ xs. Spotted l m a n xs) (sym (all_spots c.in_ok-count.count c.gather.new.spots)) (subst (λ k. Spotted l m a k (take c.in_ok-count.count c.gather.new.spots)) long spotted) in
-    spotted_after l m after a n (take (c.in_ok-count.count - 0) c.gather.new.spots) (λ s. c.mark_pages.ensures.walks s ∙ ap (λ x. walked l x s) c.gather.ensures.meaning) whole
+    let at = goal.at.scatter-requires-clause-spots g c in
+    spotted_after (gathered g at.After-gather) _ (good g at.In_ok-count) _ c.mark_pages.ensures.walks
 
 pub returns-clause-window : goal.returns-clause-window
 returns-clause-window g c =
-    let l = g.P.Mapping.meaning c.args.mapping.now in
-    let m = g.M.Memory.meaning c.args.below.now in
-    let n : ℕ = length c.args.bytes.now in
-    let a : ℕ = c.args.a.0 in
-    let low : n ≤ 128 = taken_fits l.image_size a n c.requires.taken in
-    let long : length (take (n - 0) c.blank_line-line.result) ≡ n = front_length c.blank_line-line.result n (omega (arith, low, c.blank_line-line.ensures)) in
-    let good : c.gather.result ≡ Ok c.in_ok-count.count = search rules in
-    let accepted : read_answer (windowed l m) a n ≡ Ok tt =
-    sym (gathered_answer l m a n c.requires.taken _ _ long c.gather.ensures.answer) ∙ ap (result_map_both (λ _. tt) (λ f. f)) good in
-    let spotted : Spotted l m a (length (take (n - 0) c.blank_line-line.result)) (take c.in_ok-count.count c.gather.new.spots) = search rules in
-    let pages = ap (map (λ spot. spot.page)) (all_spots c.in_ok-count.count c.gather.new.spots) ∙ spotted.pages ∙ ap (pages_of l a) long in
-    let looked = c.gather.ensures.tlb ∙ ap (λ k. lookups_of l m a k c.args.tlb.now) long in
-    let now = g.M.Memory.meaning c.gather.new.below in
-    let after = g.M.Memory.meaning c.mark_pages.new.below in
-    window_accepted l m a c.args.bytes.now (writes_as_reads (windowed l m) a n ∙ accepted) now after _ _ c.gather.ensures.meaning pages c.mark_pages.ensures.below c.scatter.ensures.all c.mark_pages.ensures.window
+    let at = goal.at.returns-clause-window g c in
+    window_accepted c.args.bytes.now (gathered g at.After-gather) _ (good g at.In_ok-count) _ _ c.scatter.ensures.all c.mark_pages.ensures.window
 
 pub returns-clause-below : goal.returns-clause-below
 returns-clause-below g c =
-    let l = g.P.Mapping.meaning c.args.mapping.now in
-    let m = g.M.Memory.meaning c.args.below.now in
-    let n : ℕ = length c.args.bytes.now in
-    let a : ℕ = c.args.a.0 in
-    let low : n ≤ 128 = taken_fits l.image_size a n c.requires.taken in
-    let long : length (take (n - 0) c.blank_line-line.result) ≡ n = front_length c.blank_line-line.result n (omega (arith, low, c.blank_line-line.ensures)) in
-    let good : c.gather.result ≡ Ok c.in_ok-count.count = search rules in
-    let accepted : read_answer (windowed l m) a n ≡ Ok tt =
-    sym (gathered_answer l m a n c.requires.taken _ _ long c.gather.ensures.answer) ∙ ap (result_map_both (λ _. tt) (λ f. f)) good in
-    let spotted : Spotted l m a (length (take (n - 0) c.blank_line-line.result)) (take c.in_ok-count.count c.gather.new.spots) = search rules in
-    let pages = ap (map (λ spot. spot.page)) (all_spots c.in_ok-count.count c.gather.new.spots) ∙ spotted.pages ∙ ap (pages_of l a) long in
-    let looked = c.gather.ensures.tlb ∙ ap (λ k. lookups_of l m a k c.args.tlb.now) long in
-    let now = g.M.Memory.meaning c.gather.new.below in
-    let after = g.M.Memory.meaning c.mark_pages.new.below in
-    write_accepted l m a c.args.bytes.now (writes_as_reads (windowed l m) a n ∙ accepted) now after _ _ c.gather.ensures.meaning pages c.mark_pages.ensures.below c.scatter.ensures.all
+    let at = goal.at.returns-clause-below g c in
+    below_write_accepted c.args.bytes.now (gathered g at.After-gather) _ (good g at.In_ok-count) _ _ c.scatter.ensures.all c.mark_pages.ensures.below
 
 pub returns-clause-tlb : goal.returns-clause-tlb
 returns-clause-tlb g c =
-    let l = g.P.Mapping.meaning c.args.mapping.now in
-    let m = g.M.Memory.meaning c.args.below.now in
-    let n : ℕ = length c.args.bytes.now in
-    let a : ℕ = c.args.a.0 in
-    let low : n ≤ 128 = taken_fits l.image_size a n c.requires.taken in
-    let long : length (take (n - 0) c.blank_line-line.result) ≡ n = front_length c.blank_line-line.result n (omega (arith, low, c.blank_line-line.ensures)) in
-    let good : c.gather.result ≡ Ok c.in_ok-count.count = search rules in
-    let accepted : read_answer (windowed l m) a n ≡ Ok tt =
-    sym (gathered_answer l m a n c.requires.taken _ _ long c.gather.ensures.answer) ∙ ap (result_map_both (λ _. tt) (λ f. f)) good in
-    let spotted : Spotted l m a (length (take (n - 0) c.blank_line-line.result)) (take c.in_ok-count.count c.gather.new.spots) = search rules in
-    let pages = ap (map (λ spot. spot.page)) (all_spots c.in_ok-count.count c.gather.new.spots) ∙ spotted.pages ∙ ap (pages_of l a) long in
-    let looked = c.gather.ensures.tlb ∙ ap (λ k. lookups_of l m a k c.args.tlb.now) long in
-    tlb_accepted l m a n c.requires.taken accepted Write c.args.tlb.now c.gather.new.tlb _ _ looked pages c.mark_pages.ensures.tlb
+    let at = goal.at.returns-clause-tlb g c in
+    tlb_accepted (gathered g at.After-gather) _ (good g at.In_ok-count) Write _ c.mark_pages.ensures.tlb
 
 pub returns-clause-reached : goal.returns-clause-reached
 returns-clause-reached g c =
