@@ -11,7 +11,7 @@ use Rattle.mapping.specs.Rules.{Layout}
 use Rattle.page_table.specs.declared.tlb.Tlb.{Tlb}
 use Rattle.page_table.specs.Ready.{Ready}
 use Rattle.page_table.specs.Walk.{windowed, shown}
-use Rattle.transfer.specs.Effect.{Effect, first_cell, cells_of}
+use Rattle.transfer.specs.Effect.{Effect}
 use Rattle.transfer.specs.Call.{tlb_after, below_called, tlb_called}
 use Rattle.transfer.proofs.Effects.{effect_of}
 use Rattle.transfer.proofs.Counting.{count_of}
