@@ -55,6 +55,9 @@ called same reach false l m n h i c ready below tlb = record {
   count = λ open1. absurd (false≢true open1);
 }
 
-pub not_taken : {Same Reach : Type 0} → Same → Reach → (is_open : Bool) (l : Layout) (m : Meaning) (h : Tlb) (c : Call) (f : Fault) → (is_open ≡ true → Ready l m h) → check_run (shown is_open l m).size (first_cell c) (cells_of c) ≡ Err f → Called Same Reach is_open l m m h h c
+pub not_taken : {Same Reach : Type 0} → Same → Reach → (is_open : Bool) (l : Layout) (m : Meaning) (h : Tlb) (c : Call) (f : Fault)
+    → (is_open ≡ true → Ready l m h)
+    → check_run (shown is_open l m).size (first_cell c) (cells_of c) ≡ Err f
+    → Called Same Reach is_open l m m h h c
 not_taken same reach true l m h c f ready bad = called same reach true l m m h h c ready (below_outside l m h f c bad) (tlb_outside l m h f c bad)
 not_taken same reach false l m h c f ready bad = called same reach false l m m h h c ready refl refl

@@ -10,7 +10,8 @@ use Rattle.window.proofs.window.WindowMemory.read.Goals.{In_err-check_run}
 use Rattle.window.proofs.window.WindowMemory.read.Given.{Over}
 use Rattle.window.proofs.window.WindowMemory.read.Goals as goal
 
-bad : (g : Over) (c : In_err-check_run g) → check_run (shown (is_ok c.args.self.now.opening) (g.P.Mapping.meaning c.args.self.now.mapping) (g.M.Memory.meaning c.args.self.now.below)).size c.args.a (length c.args.buffer.now) ≡ Err c.in_err-check_run.field-0.0
+bad : (g : Over) (c : In_err-check_run g)
+    → check_run (shown (is_ok c.args.self.now.opening) (g.P.Mapping.meaning c.args.self.now.mapping) (g.M.Memory.meaning c.args.self.now.below)).size c.args.a (length c.args.buffer.now) ≡ Err c.in_err-check_run.field-0.0
 bad g c = search rules
 
 pub returns-in_err-check_run-clause-answer : goal.returns-in_err-check_run-clause-answer
