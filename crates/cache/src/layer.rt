@@ -1,0 +1,1 @@
+pub struct Cache { pub x: u64 }
