@@ -13,6 +13,7 @@ use units::LINE;
 
 // A read of a line that is not held: the answer, and whether the next line was kept. Where the line as a whole refuses, the run alone is
 // read, so that a good run in it gives its bytes, and a bad one its own first fault.
+#[tactic(auto, using(memory::proofs::Reaches::only_read_more))]
 pub(crate) fn miss<M: Memory>(
     below: &mut M,
     lines: &mut CacheSets,
@@ -43,6 +44,7 @@ pub(crate) fn miss<M: Memory>(
 }
 
 // What follows a hit: the first one of a prefetched line prefetches the next line. Whether that was kept.
+#[tactic(auto, using(memory::proofs::Reaches::only_read_none))]
 pub(crate) fn follow_hit<M: Memory>(
     below: &mut M,
     lines: &mut CacheSets,
@@ -62,6 +64,7 @@ pub(crate) fn follow_hit<M: Memory>(
 }
 
 // Keeps the line, unless it is held, or refuses as one past the end does. Whether it was kept.
+#[tactic(auto, using(memory::proofs::Reaches::only_read_none))]
 fn prefetch<M: Memory>(below: &mut M, lines: &mut CacheSets, number: u64) -> bool
     requires coherent { M.Memory.coherent below.old }
     requires small { number < 2 ^ 57 }

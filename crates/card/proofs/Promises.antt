@@ -4,7 +4,7 @@ use Rattle.std.specs.Prelude.{Decides}
 use Rattle.std.proofs.lemmas.Bool.{false≢true}
 use Rattle.memory.specs.Meaning.{Meaning}
 use Rattle.memory.specs.Reach.{Call, Writes, Reached, OnlyRead, after_calls}
-use Rattle.memory.proofs.Reaches.{reached_more}
+use Rattle.memory.proofs.Reaches.{only_reached, reached_more}
 use Rattle.mapping.specs.Rules.{Rules, Layout, layout_of}
 use Rattle.page_table.specs.declared.entry.Entry.{Entry}
 use Rattle.page_table.specs.declared.tlb.Tlb.{Tlb}
@@ -69,7 +69,7 @@ module _ {S : Type 0} (meaning : S → Meaning) (R : S → Call → S → Type 0
   -- a list is played as well from a state before, from which reads alone led to its start
   pub from_before : (r s t : S) (h i : Tlb) (cs ds : List Recorded) → meaning s ≡ meaning r → OnlyRead R r s → PlayedThrough meaning R is_open l s t h i cs ds → PlayedThrough meaning R is_open l r t h i cs ds
   from_before r s t h i cs ds same reads p =
-      let first : Reached R r s = record { calls = reads.calls; linked = reads.linked } in
+      let first = only_reached R reads in
       record {
         calls = p.calls ∙ ap (λ m. played (shown is_open l m) cs) same;
         every = λ k low.

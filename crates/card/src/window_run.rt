@@ -13,7 +13,8 @@ use window::{Window, WindowReport};
 use window_list::play_window;
 
 // The memory that was lent, and what the window reported at the end, or why none was made.
-pub struct WindowRun<M> {
+#[derive(Drop)]
+pub struct WindowRun<M: Memory> {
     pub memory: M,
     pub outcome: Result<WindowReport, SetUpRefusal>,
 }

@@ -39,6 +39,10 @@ module _ {S : Type 0} (R : S → Call → S → Type 0) where
   unfolding AllReads
   only_read_one {s} {t} a b r = record { calls = reading a b ∷ []; linked = linked_one s t (reading a b) r; reads = tt }
 
+  -- a state that reads alone lead to is reached
+  pub only_reached : {s t : S} → OnlyRead R s t → Reached R s t
+  only_reached {s} {t} p = record { calls = p.calls; linked = p.linked }
+
   pub only_read_more : {s t u : S} → OnlyRead R s t → OnlyRead R t u → OnlyRead R s u
   only_read_more {s} {t} {u} p q = record {
     calls = p.calls ++ q.calls;
