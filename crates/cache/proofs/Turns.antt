@@ -4,7 +4,7 @@ use Rattle.std.specs.Option.{option_map}
 use Rattle.memory.specs.declared.fault.Fault.{Fault}
 use Rattle.memory.specs.Run.{check_run}
 use Rattle.memory.specs.Meaning.{Meaning}
-use Rattle.memory.specs.Reach.{Call, reading, writing, first_cell, cells_of}
+use Rattle.memory.specs.Reach.{Call, reading, writing, first_cell, cells_of, cells_after}
 use Rattle.memory.specs.Calls.{read_answer, write_answer, delivered, written, bytes}
 use Rattle.memory.specs.Fault.{from_below}
 use Rattle.memory.specs.Up.{cells_up}
@@ -15,7 +15,7 @@ use Rattle.cache_lines.specs.Lines.{copied_from, held_line}
 use Rattle.cache_lines.specs.Sets.{line_dropped, line_hit}
 use Rattle.cache.specs.Counts.{counted}
 use Rattle.cache.specs.Rules.{after_prefetch, after_miss, prefetch_keeps, miss_keeps, first_hit, CacheState, line_read, after_read, after_write, cache_called}
-use Rattle.cache.specs.State.{Copy, Mirrored, cells_below, Called}
+use Rattle.cache.specs.State.{Copy, Mirrored, Called}
 use Rattle.cache.proofs.Copies.{run_answer, run_delivered, mirrored_written, mirrored_refused, ok_is}
 
 -- a held line, by what a hit of it says
@@ -44,7 +44,7 @@ module _ (m : Meaning) (a n : ℕ) (f : Fault) (bad : check_run m.size a n ≡ E
       let out : write_answer m b (length bs) ≡ Err f = ap (λ x. write_answer m x (length bs)) at ∙ ap (write_answer m a) long ∙ write_outside in
       sym (ap (λ r. cond (is_ok r) (record { sets = line_dropped (b / 128) o.sets; counts = o.counts }) o) out)
 
-  cells_outside : (c : Call) → first_cell c ≡ a → cells_of c ≡ n → m ≡ cells_below m c
+  cells_outside : (c : Call) → first_cell c ≡ a → cells_of c ≡ n → m ≡ cells_after m c
   cells_outside (reading b bs) at long = refl
   cells_outside (writing b bs) at long = sym (written_refused m b bs f (ap (λ x. write_answer m x (length bs)) at ∙ ap (write_answer m a) long ∙ write_outside))
 

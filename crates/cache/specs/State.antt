@@ -2,13 +2,12 @@
 -- Copy m n x: the line x is the line n of the memory m, which accepts a read of the whole line
 -- Mirrored m s: each line that is held in s is one of m
 -- Standing C m s k: C says that the memory below is coherent; each held line mirrors it; and the counts k are steady
--- cells_below m c: the memory m below after the call c
 -- Called Reach Same m n o p c: what the call c leaves: Reach says that calls led the memory below from m to n, and Same that it is the
 -- very value that it was; the memory below becomes what the call makes of it, and what the cache has of its own becomes p from o
 use Rattle.std.specs.Prelude.{◌≡◌, ℕ, ◌*◌, true, List, Some}
 use Rattle.memory.specs.Meaning.{Meaning}
-use Rattle.memory.specs.Reach.{Call, reading, writing}
-use Rattle.memory.specs.Calls.{bytes, written}
+use Rattle.memory.specs.Reach.{Call, cells_after}
+use Rattle.memory.specs.Calls.{bytes}
 use Rattle.cache_lines.specs.declared.line.CacheLine.{CacheLine}
 use Rattle.cache_lines.specs.Lines.{held_line}
 use Rattle.cache.specs.declared.counts.CacheCounts.{CacheCounts}
@@ -27,13 +26,8 @@ pub record Standing (C : Type 0) (m : Meaning) (s : ℕ → List CacheLine) (k :
   pub mirrored : Mirrored m s
   pub steady : Steady k
 
--- a read leaves its cells, and a write writes them
-abbrev pub cells_below : Meaning → Call → Meaning
-cells_below m (reading a b) = m
-cells_below m (writing a bs) = written m a bs
-
 pub record Called (Reach Same : Type 0) (m n : Meaning) (o p : CacheState) (c : Call) : Type 0 where
   pub state : p ≡ cache_called m c o
-  pub below : n ≡ cells_below m c
+  pub below : n ≡ cells_after m c
   pub reached : Reach
   pub quiet : QuietHit m c o.sets → Same

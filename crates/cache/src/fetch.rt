@@ -2,7 +2,8 @@
 ghost use Rattle.std.specs.Prelude.{◌≡◌, ◌+◌, ◌/◌, ◌%◌, ◌^◌, ◌<◌, false, cond, ◌&&◌, length, Ok};
 ghost use Rattle.memory.specs.Run.{check_run};
 ghost use Rattle.memory.specs.Calls.{read_answer, delivered};
-ghost use Rattle.memory.specs.Reach.{OnlyRead};
+ghost use Rattle.memory.specs.Reach.{OnlyRead, Step};
+ghost use Rattle.memory.specs.Fault.{from_below};
 ghost use Rattle.memory.specs.Up.{cells_up};
 ghost use Rattle.cache_lines.specs.Lines.{sets_of};
 ghost use Rattle.cache.specs.Rules.{fetched, prefetch_keeps, after_prefetch, miss_keeps, after_miss};
@@ -28,7 +29,7 @@ pub(crate) fn miss<M: Memory>(
     ensures lines { sets_of lines.new ≡ after_miss (M.Memory.meaning below.old) (a / 128) (sets_of lines.old) }
     ensures meaning { M.Memory.meaning below.new ≡ M.Memory.meaning below.old }
     ensures coherent { M.Memory.coherent below.new }
-    ensures reads { OnlyRead M.Memory.step below.old below.new }
+    ensures reads { OnlyRead (Step M.Memory.meaning M.Memory.coherent M.Memory.step) below.old below.new }
 {
     let number = a / LINE;
     match fetch(below, number, false) {
@@ -39,8 +40,20 @@ pub(crate) fn miss<M: Memory>(
             lines.keep(line);
             (Ok(()), prefetch(below, lines, number + 1))
         }
-        None => (from_below(below.read(a, buffer)), false),
+        None => (read_alone(below, a, buffer), false),
     }
+}
+
+// The run alone, with its own first fault.
+fn read_alone<M: Memory>(below: &mut M, a: u64, buffer: &mut [u8]) -> Result<(), Fault>
+    requires { M.Memory.coherent below.old }
+    ensures answer { result ≡ from_below (read_answer (M.Memory.meaning below.old) a (length buffer.old)) }
+    ensures buffer { buffer.new ≡ delivered (M.Memory.meaning below.old) a buffer.old }
+    ensures meaning { M.Memory.meaning below.new ≡ M.Memory.meaning below.old }
+    ensures coherent { M.Memory.coherent below.new }
+    ensures reads { OnlyRead (Step M.Memory.meaning M.Memory.coherent M.Memory.step) below.old below.new }
+{
+    from_below(below.read(a, buffer))
 }
 
 // What follows a hit: the first one of a prefetched line prefetches the next line. Whether that was kept.
@@ -57,7 +70,7 @@ pub(crate) fn follow_hit<M: Memory>(
     ensures lines { sets_of lines.new ≡ cond first (after_prefetch (M.Memory.meaning below.old) next (sets_of lines.old)) (sets_of lines.old) }
     ensures meaning { M.Memory.meaning below.new ≡ M.Memory.meaning below.old }
     ensures coherent { M.Memory.coherent below.new }
-    ensures reads { OnlyRead M.Memory.step below.old below.new }
+    ensures reads { OnlyRead (Step M.Memory.meaning M.Memory.coherent M.Memory.step) below.old below.new }
     ensures quiet { first ≡ false → below.new ≡ below.old }
 {
     first && prefetch(below, lines, next)
@@ -72,7 +85,7 @@ fn prefetch<M: Memory>(below: &mut M, lines: &mut CacheSets, number: u64) -> boo
     ensures lines { sets_of lines.new ≡ after_prefetch (M.Memory.meaning below.old) number (sets_of lines.old) }
     ensures meaning { M.Memory.meaning below.new ≡ M.Memory.meaning below.old }
     ensures coherent { M.Memory.coherent below.new }
-    ensures reads { OnlyRead M.Memory.step below.old below.new }
+    ensures reads { OnlyRead (Step M.Memory.meaning M.Memory.coherent M.Memory.step) below.old below.new }
 {
     if lines.holds(number) {
         return false;
@@ -93,7 +106,7 @@ fn fetch<M: Memory>(below: &mut M, number: u64, prefetched: bool) -> Option<Cach
     ensures line { result ≡ fetched (M.Memory.meaning below.old) number prefetched }
     ensures meaning { M.Memory.meaning below.new ≡ M.Memory.meaning below.old }
     ensures coherent { M.Memory.coherent below.new }
-    ensures reads { OnlyRead M.Memory.step below.old below.new }
+    ensures reads { OnlyRead (Step M.Memory.meaning M.Memory.coherent M.Memory.step) below.old below.new }
 {
     let mut bytes = [0; LINE as usize];
     match below.read(number * LINE, &mut bytes) {

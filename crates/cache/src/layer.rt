@@ -1,6 +1,6 @@
 // A cache as a layer over a memory: made, asked, reported on, closed.
 ghost use Rattle.std.specs.Prelude.{◌≡◌, cond};
-ghost use Rattle.memory.specs.Reach.{Reached};
+ghost use Rattle.memory.specs.Reach.{Reached, Step};
 ghost use Rattle.memory.specs.Up.{cells_up, cells_up_formed};
 ghost use Rattle.cache_lines.specs.Lines.{sets_of};
 ghost use Rattle.cache_lines.specs.Sets.{line_dropped};
@@ -61,7 +61,7 @@ impl<M: Memory> Memory for Cache<M> {
 
     ghost formed = { λ c s. cells_up_formed (M.Memory.meaning c.below) (M.Memory.formed c.below s.below) };
 
-    ghost step = { λ before call after. Called (Reached M.Memory.step before.below after.below) (after.below ≡ before.below) (M.Memory.meaning before.below) (M.Memory.meaning after.below) (record { sets = sets_of before.lines; counts = before.counts }) (record { sets = sets_of after.lines; counts = after.counts }) call };
+    ghost step = { λ before call after. Called (Reached (Step M.Memory.meaning M.Memory.coherent M.Memory.step) before.below after.below) (after.below ≡ before.below) (M.Memory.meaning before.below) (M.Memory.meaning after.below) (record { sets = sets_of before.lines; counts = before.counts }) (record { sets = sets_of after.lines; counts = after.counts }) call };
 
     fn size(&self) -> u64 {
         self.below.size()

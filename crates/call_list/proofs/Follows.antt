@@ -1,9 +1,9 @@
 -- The states between the calls of a list. Assumes nothing.
 use Rattle.std.proofs.Common.{◌≡◌, ℕ, zero, suc, List, [], ◌∷◌, take, drop, refl, sym, ap, ◌∙◌, subst}
 use Rattle.memory.specs.Meaning.{Meaning}
-use Rattle.memory.specs.Reach.{Call, Linked, after_calls}
+use Rattle.memory.specs.Reach.{Call, Linked, after_calls, Step}
 use Rattle.call_list.specs.Model.{model}
-use Rattle.call_list.specs.Follow.{Step, Between}
+use Rattle.call_list.specs.Follow.{Between}
 
 -- the state between any two calls
 pub linked_at : {S : Type 0} (R : S → Call → S → Type 0) (s t : S) (cs : List Call) (k : ℕ) → Linked R s cs t → (u : S) × Linked R s (take k cs) u × Linked R u (drop k cs) t

@@ -4,13 +4,13 @@ use Rattle.memory.specs.declared.access.Access.{Access}
 use Rattle.memory.specs.declared.access.Access.TheVariants.{Read, Write}
 use Rattle.memory.specs.declared.fault.Fault.{Fault}
 use Rattle.memory.specs.Meaning.{Cell, byte, Meaning}
-use Rattle.memory.specs.Reach.{Call, reading, writing, after_calls}
+use Rattle.memory.specs.Reach.{Call, reading, writing, after_calls, cells_after}
 use Rattle.memory.specs.Calls.{read_answer, write_answer, bytes, delivered, stored, written}
 use Rattle.memory.proofs.Calls.{cell_answer_byte, get_or_bytes, writes_as_reads, written_accepted, written_refused}
 use Rattle.memory.proofs.Overlays.{cases_run}
 use Rattle.memory.proofs.Writes.{stored_inside, stored_outside, same_size, stored_answer, accepted_each}
 use Rattle.call_list.specs.Record.{Recorded, call_at, call_of, calls_of}
-use Rattle.call_list.specs.Model.{call_answer, buffer_after, cells_after, made, played, model}
+use Rattle.call_list.specs.Model.{call_answer, buffer_after, made, played, model}
 use Rattle.call_list.specs.Law.{at, Stores, LastStore, Holds, Answered, ListLaw}
 use Rattle.call_list.proofs.Models.{length_after, length_played}
 

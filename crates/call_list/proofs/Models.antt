@@ -6,12 +6,12 @@ use Rattle.memory.specs.declared.access.Access.{Access}
 use Rattle.memory.specs.declared.access.Access.TheVariants.{Read, Write}
 use Rattle.memory.specs.declared.fault.Fault.{Fault}
 use Rattle.memory.specs.Meaning.{Meaning}
-use Rattle.memory.specs.Reach.{Call, after_calls}
+use Rattle.memory.specs.Reach.{Call, after_calls, cells_after}
 use Rattle.memory.specs.Calls.{read_answer, bytes, delivered}
 use Rattle.memory.proofs.Calls.{length_bytes}
 use Rattle.call_list.specs.declared.record.CallRecord.{CallRecord}
 use Rattle.call_list.specs.Record.{Recorded, recorded, call_at, call_of, calls_of}
-use Rattle.call_list.specs.Model.{call_answer, buffer_after, cells_after, made, played, model}
+use Rattle.call_list.specs.Model.{call_answer, buffer_after, made, played, model}
 
 pub length_delivered : (m : Meaning) (a : ℕ) (b : List ℕ) → length (delivered m a b) ≡ length b
 length_delivered m a b = by (is_ok (read_answer m a (length b))) where

@@ -3,12 +3,11 @@ use Rattle.std.proofs.Common.{◌≡◌, ℕ, ◌+◌, ◌<◌, ◌≤◌, List,
 use Rattle.std.proofs.lemmas.List.{take_all, take_more, take_more_set, drop-set-lt, get_or-drop, length-set, length-map, map-append, map-set, get_or-map}
 use Rattle.std.proofs.lemmas.Grind.{drop_more_same}
 use Rattle.memory.specs.Meaning.{Meaning}
-use Rattle.memory.specs.Reach.{Call, Linked, after_calls}
+use Rattle.memory.specs.Reach.{Call, Linked, after_calls, cells_after, Step}
 use Rattle.memory.proofs.Reaches.{linked_none, linked_one, linked_append}
 use Rattle.call_list.specs.declared.record.CallRecord.{CallRecord}
 use Rattle.call_list.specs.Record.{Recorded, recorded, call_of, calls_of}
-use Rattle.call_list.specs.Model.{cells_after, made, played, model}
-use Rattle.call_list.specs.Follow.{Step}
+use Rattle.call_list.specs.Model.{made, played, model}
 use Rattle.call_list.specs.Law.{ListLaw}
 use Rattle.call_list.specs.Played.{ListPlayed}
 use Rattle.call_list.proofs.Models.{model_push, played_push}

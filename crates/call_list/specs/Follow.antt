@@ -1,15 +1,9 @@
 -- The states that a list of calls goes through. Assumes nothing.
--- Step meaning coherent R s c t: the call c took the memory from the state s to the state t, by the memory's own relation R
 -- Between meaning coherent R s cs k t: the state after the first k of the calls cs, from s before them to t after all
 use Rattle.std.specs.Prelude.{◌≡◌, ℕ, List, take, drop}
 use Rattle.memory.specs.Meaning.{Meaning}
-use Rattle.memory.specs.Reach.{Call, Linked}
-use Rattle.call_list.specs.Model.{cells_after, model}
-
-pub record Step {S : Type 0} (meaning : S → Meaning) (coherent : S → Type 0) (R : S → Call → S → Type 0) (s : S) (c : Call) (t : S) : Type 0 where
-  pub cells : meaning t ≡ cells_after (meaning s) c
-  pub kept : coherent t
-  pub step : R s c t
+use Rattle.memory.specs.Reach.{Call, Linked, Step}
+use Rattle.call_list.specs.Model.{model}
 
 -- its size and cells are those of the reference model
 pub record Between {S : Type 0} (meaning : S → Meaning) (coherent : S → Type 0) (R : S → Call → S → Type 0) (s : S) (cs : List Call) (k : ℕ) (t : S) : Type 0 where

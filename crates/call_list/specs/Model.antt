@@ -1,15 +1,14 @@
 -- The reference model: a copy of a memory's size and cells, which answers a list of calls by them. Assumes nothing.
 -- call_answer m c: acceptance of the call c by the cells m, or the fault that it is refused with
 -- buffer_after m c: what its buffer holds then
--- cells_after m c: the cells then
 -- made m c: the record of the call c, once it was made
 -- played m cs: the records of the calls cs, once they were made one after another
 -- model m cs: the cells after these calls
 use Rattle.std.specs.Prelude.{List, [], ◌∷◌, ℕ, length, Some, Result}
 use Rattle.memory.specs.declared.fault.Fault.{Fault}
 use Rattle.memory.specs.Meaning.{Meaning}
-use Rattle.memory.specs.Calls.{read_answer, write_answer, delivered, written}
-use Rattle.memory.specs.Reach.{Call, reading, writing, after_calls}
+use Rattle.memory.specs.Calls.{read_answer, write_answer, delivered}
+use Rattle.memory.specs.Reach.{Call, reading, writing, cells_after, after_calls}
 use Rattle.call_list.specs.Record.{Recorded, call_of}
 
 abbrev pub call_answer : Meaning → Call → Result (Unit {0}) Fault
@@ -19,10 +18,6 @@ call_answer m (writing a bs) = write_answer m a (length bs)
 abbrev pub buffer_after : Meaning → Call → List ℕ
 buffer_after m (reading a b) = delivered m a b
 buffer_after m (writing a bs) = bs
-
-abbrev pub cells_after : Meaning → Call → Meaning
-cells_after m (reading a b) = m
-cells_after m (writing a bs) = written m a bs
 
 abbrev pub made : Meaning → Recorded → Recorded
 made m c = record {

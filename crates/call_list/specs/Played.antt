@@ -3,11 +3,11 @@
 -- to the state t, each step by its own relation R
 use Rattle.std.specs.Prelude.{◌≡◌, ℕ, ◌≤◌, List, length}
 use Rattle.memory.specs.Meaning.{Meaning}
-use Rattle.memory.specs.Reach.{Call, Linked}
+use Rattle.memory.specs.Reach.{Call, Linked, Step}
 use Rattle.call_list.specs.Record.{Recorded, calls_of}
 use Rattle.call_list.specs.Model.{played, model}
 use Rattle.call_list.specs.Law.{ListLaw}
-use Rattle.call_list.specs.Follow.{Step, Between}
+use Rattle.call_list.specs.Follow.{Between}
 
 pub record ListPlayed {S : Type 0} (meaning : S → Meaning) (coherent : S → Type 0) (R : S → Call → S → Type 0) (s t : S) (cs ds : List Recorded) : Type 0 where
   -- every answer and buffer is the reference model's; so are size and cells after every call, the last one too

@@ -1,9 +1,8 @@
 // A list of calls, made one after another on one memory.
 ghost use Rattle.std.specs.Prelude.{◌≡◌, ℕ, ◌≤◌, length, map};
-ghost use Rattle.memory.specs.Reach.{Linked};
+ghost use Rattle.memory.specs.Reach.{Linked, cells_after, Step};
 ghost use Rattle.call_list.specs.Record.{recorded, call_at, call_of, calls_of};
-ghost use Rattle.call_list.specs.Model.{call_answer, buffer_after, cells_after, made, played, model};
-ghost use Rattle.call_list.specs.Follow.{Step};
+ghost use Rattle.call_list.specs.Model.{call_answer, buffer_after, made, played, model};
 ghost use Rattle.call_list.specs.Played.{ListPlayed};
 
 use crate::record::CallRecord;

@@ -5,9 +5,13 @@
 -- OnlyRead R s t: reads alone lead from s to t
 -- first_cell c, cells_of c: the address and the length of the run of the call c
 -- Writes c: c is a write
+-- cells_after m c: the cells m after the call c
+-- Step meaning coherent R s c t: the call c took a memory from the state s to the state t, by the relation R and as every memory answers
 -- bytes_after f xs c: what the bytes xs are after the call c, where f says what they are after a write
 -- after_calls f x cs: what x becomes by the calls cs, one after the other, where f says what it becomes by one
 use Rattle.std.specs.Prelude.{◌≡◌, ℕ, List, [], ◌∷◌, length}
+use Rattle.memory.specs.Meaning.{Meaning}
+use Rattle.memory.specs.Calls.{written}
 
 pub data Call : Type 0 where
   -- a read at an address, into a buffer that held these bytes
@@ -26,6 +30,15 @@ cells_of (writing a bs) = length bs
 abbrev pub Writes : Call → Type 0
 Writes (reading a b) = ⊥
 Writes (writing a bs) = Unit {0}
+
+abbrev pub cells_after : Meaning → Call → Meaning
+cells_after m (reading a b) = m
+cells_after m (writing a bs) = written m a bs
+
+pub record Step {S : Type 0} (meaning : S → Meaning) (coherent : S → Type 0) (R : S → Call → S → Type 0) (s : S) (c : Call) (t : S) : Type 0 where
+  pub cells : meaning t ≡ cells_after (meaning s) c
+  pub kept : coherent t
+  pub step : R s c t
 
 -- a read leaves them
 abbrev pub bytes_after : (List ℕ → ℕ → List ℕ → List ℕ) → List ℕ → Call → List ℕ

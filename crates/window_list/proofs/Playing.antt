@@ -1,7 +1,7 @@
 -- What a list of calls on a window comes to, by the states it goes through. Assumes nothing.
 use Rattle.std.proofs.Common.{◌≡◌, ℕ, Bool, true, false, cond, List, [], ◌∷◌, is_ok, take, drop, refl, sym, ap, ◌∙◌, subst}
 use Rattle.memory.specs.Meaning.{Meaning}
-use Rattle.memory.specs.Reach.{Call, Linked, Reached, after_calls}
+use Rattle.memory.specs.Reach.{Call, Linked, Reached, after_calls, cells_after, Step}
 use Rattle.memory.specs.Calls.{read_answer}
 use Rattle.memory.proofs.Reaches.{reached_none, reached_more}
 use Rattle.mapping.specs.Rules.{Layout}
@@ -9,8 +9,7 @@ use Rattle.page_table.specs.declared.tlb.Tlb.{Tlb}
 use Rattle.page_table.specs.Walk.{windowed, shown}
 use Rattle.transfer.specs.Call.{below_called, tlb_called}
 use Rattle.call_list.specs.Record.{Recorded, calls_of}
-use Rattle.call_list.specs.Model.{cells_after}
-use Rattle.call_list.specs.Follow.{Step, Between}
+use Rattle.call_list.specs.Follow.{Between}
 use Rattle.call_list.specs.Law.{ListLaw}
 use Rattle.call_list.specs.Played.{ListPlayed}
 use Rattle.call_list.proofs.Laws.{answers_kept}

@@ -2,7 +2,7 @@
 use Rattle.std.proofs.Common.{◌/◌, ◌%◌, length, take, drop, refl, sym, ap, ◌∙◌, arith}
 use Rattle.memory.specs.Fault.{from_below}
 use Rattle.memory.specs.Calls.{read_answer, delivered}
-use Rattle.memory.proofs.Reaches.{only_read_one, only_read_more}
+use Rattle.memory.proofs.Reaches.{only_read_more}
 use Rattle.memory.proofs.Ups.{read_inside_up, delivered_up}
 use Rattle.cache.proofs.Copies.{fetched_some, run_answer, run_delivered}
 use Rattle.cache.proofs.fetch.miss.Goals as goal
@@ -27,15 +27,15 @@ pub returns-in-None-clause-answer : goal.returns-in-None-clause-answer
 returns-in-None-clause-answer g c =
     let m = g.M.Memory.meaning c.args.below.now in
     let n = length c.args.buffer.now in
-    c.from_below.ensures
-    ∙ ap from_below (c.read.ensures.answer ∙ ap (λ x. read_answer x c.args.a n) c.fetch.ensures.meaning)
+    c.read_alone.ensures.answer
+    ∙ ap (λ x. from_below (read_answer x c.args.a n)) c.fetch.ensures.meaning
     ∙ sym (read_inside_up m c.args.a n c.requires.taken)
 
 pub returns-in-None-clause-buffer : goal.returns-in-None-clause-buffer
 returns-in-None-clause-buffer g c =
-    c.read.ensures.buffer
+    c.read_alone.ensures.buffer
     ∙ ap (λ x. delivered x c.args.a c.args.buffer.now) c.fetch.ensures.meaning
     ∙ sym (delivered_up (g.M.Memory.meaning c.args.below.now) c.args.a c.args.buffer.now)
 
 pub returns-in-None-clause-reads : goal.returns-in-None-clause-reads
-returns-in-None-clause-reads g c = only_read_more g.M.Memory.step c.fetch.ensures.reads (only_read_one g.M.Memory.step _ _ c.read.ensures.step)
+returns-in-None-clause-reads g c = only_read_more _ c.fetch.ensures.reads c.read_alone.ensures.reads

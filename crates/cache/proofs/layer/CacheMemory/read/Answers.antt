@@ -35,7 +35,7 @@ returns-in_err-check_run-clause-buffer g c =
 pub returns-in_err-check_run-clause-step : goal.returns-in_err-check_run-clause-step
 returns-in_err-check_run-clause-step g c =
     not_taken (g.M.Memory.meaning c.args.self.now.below) _ _ _ (bad g (goal.at.returns-in_err-check_run-clause-step g c).In_err-check_run)
-    _ (reading c.args.a c.args.buffer.now) refl refl (reached_none g.M.Memory.step c.args.self.now.below) refl
+    _ (reading c.args.a c.args.buffer.now) refl refl (reached_none _ c.args.self.now.below) refl
 
 pub returns-in-Some-clause-answer : goal.returns-in-Some-clause-answer
 returns-in-Some-clause-answer g c =
@@ -67,7 +67,7 @@ returns-in-Some-clause-step g c =
     let n = c.args.a / 128 in
     let e = c.follow_hit-kept.ensures in
     read_hit m _ c.args.a c.args.buffer.now _ _ (taken g (goal.at.returns-in-Some-clause-step g c).In_ok-check_run) e.meaning
-    (only_reached g.M.Memory.step e.reads) c.in-Some.first c.follow_hit-kept.result c.in-Some.ensures.first
+    (only_reached _ e.reads) c.in-Some.first c.follow_hit-kept.result c.in-Some.ensures.first
     (e.kept ∙ ap (λ s. c.in-Some.first && prefetch_keeps m (n + 1) s) c.hit.ensures.sets)
     (e.lines ∙ ap (λ s. cond c.in-Some.first (after_prefetch m (n + 1) s) s) c.hit.ensures.sets)
     c.count.ensures.counts e.quiet
@@ -94,5 +94,5 @@ returns-clause-step g c =
     let e = c.miss-answer.ensures in
     let same = c.hit.ensures.sets ∙ hit_none n s (not_held _ (none g (goal.at.returns-clause-step g c).In_default)) in
     read_miss m _ c.args.a c.args.buffer.now _ _ (taken g (goal.at.returns-clause-step g c).In_ok-check_run) e.meaning
-    (only_reached g.M.Memory.step e.reads) c.miss-answer.result.1 (none g (goal.at.returns-clause-step g c).In_default)
+    (only_reached _ e.reads) c.miss-answer.result.1 (none g (goal.at.returns-clause-step g c).In_default)
     (e.kept ∙ ap (miss_keeps m n) same) (e.lines ∙ ap (after_miss m n) same) c.count-2.ensures.counts

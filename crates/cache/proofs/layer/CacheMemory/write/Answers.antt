@@ -32,7 +32,7 @@ returns-in_err-check_run-clause-meaning g c =
 pub returns-in_err-check_run-clause-step : goal.returns-in_err-check_run-clause-step
 returns-in_err-check_run-clause-step g c =
     not_taken (g.M.Memory.meaning c.args.self.now.below) _ _ _ (bad g (goal.at.returns-in_err-check_run-clause-step g c).In_err-check_run)
-    _ (writing c.args.a c.args.bytes.now) refl refl (reached_none g.M.Memory.step c.args.self.now.below) refl
+    _ (writing c.args.a c.args.bytes.now) refl refl (reached_none _ c.args.self.now.below) refl
 
 pub returns-clause-answer : goal.returns-clause-answer
 returns-clause-answer g c =
@@ -57,4 +57,4 @@ pub returns-clause-step : goal.returns-clause-step
 returns-clause-step g c =
     let m = g.M.Memory.meaning c.args.self.now.below in
     write_called m c.args.a c.args.bytes.now c.from_below-answer.result (taken g (goal.at.returns-clause-step g c).In_ok-check_run) (search rules)
-    _ _ _ c.write.ensures.meaning (reached_one g.M.Memory.step _ c.write.ensures.step) (search rules) refl
+    _ _ _ c.write.ensures.meaning (reached_one _ _ (record { cells = c.write.ensures.meaning; kept = c.write.ensures.coherent; step = c.write.ensures.step })) (search rules) refl
