@@ -3,7 +3,7 @@ use Rattle.std.proofs.Common.{◌≡◌, ℕ, ◌<◌, Bool, true, false, ◌⊎
 use Rattle.std.specs.Prelude.{Decides}
 use Rattle.std.proofs.lemmas.Bool.{false≢true}
 use Rattle.memory.specs.Meaning.{Meaning}
-use Rattle.memory.specs.Reach.{Call, Writes, Reached, OnlyRead, after_calls}
+use Rattle.memory.specs.Reach.{Call, Writes, OnlyRead, after_calls}
 use Rattle.memory.proofs.Reaches.{only_reached, reached_more}
 use Rattle.mapping.specs.Rules.{Rules, Layout, layout_of}
 use Rattle.page_table.specs.declared.entry.Entry.{Entry}

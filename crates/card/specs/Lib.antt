@@ -1,2 +1,3 @@
 pub mod SetUp
 pub mod Promise
+pub mod OverCache
