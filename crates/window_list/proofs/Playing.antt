@@ -125,13 +125,39 @@ module _ {P S Q : Type 0} (armed : P → Type 0) (layout : P → Layout) (meanin
   abbrev WindowStep : Window P S Q → Call → Window P S Q → Type 0
   WindowStep before call after = Called ((after.mapping ≡ before.mapping) × (after.opening ≡ before.opening)) (Reached R before.below after.below) (is_ok before.opening) (layout before.mapping) (meaning before.below) (meaning after.below) before.tlb after.tlb call
 
+  as_called : (x y : Window P S Q) (c : Call) → WindowStep x c y → Called ((layout y.mapping ≡ layout x.mapping) × (is_ok y.opening ≡ is_ok x.opening)) (Reached R x.below y.below) (is_ok x.opening) (layout x.mapping) (meaning x.below) (meaning y.below) x.tlb y.tlb c
+  as_called x y c s = record { same = (ap layout s.same.0, ap is_ok s.same.1); reached = s.reached; below = s.below; tlb = s.tlb; effect = s.effect; count = s.count }
+
   pub list_on_window : (v w : Window P S Q) (cs ds : List Recorded) → ListPlayed WindowCells WindowCoherent WindowStep v w cs ds → WindowPlayed armed layout meaning coherent R v w cs ds
   list_on_window v w cs ds list = record {
     list =
         played_through meaning R (λ x. x.below) (λ x. x.tlb) (λ x. is_ok x.opening) (λ x. layout x.mapping) WindowCoherent WindowStep
-        (λ x y c s. record { same = (ap layout s.same.0, ap is_ok s.same.1); reached = s.reached; below = s.below; tlb = s.tlb; effect = s.effect; count = s.count })
+        as_called
         v w cs ds list;
     mapping = linked_keeps WindowCells WindowCoherent WindowStep (λ x. x.mapping) (λ x y c s. s.same.0) v w (calls_of cs) list.linked;
     opening = linked_keeps WindowCells WindowCoherent WindowStep (λ x. x.opening) (λ x y c s. s.same.1) v w (calls_of cs) list.linked;
     standing = list.coherent_after;
   }
+
+  -- what the calls that led a window from one state to another left of it
+  pub record WindowReached (v w : Window P S Q) : Type 0 where
+    pub asked : List Call
+    pub mapping : w.mapping ≡ v.mapping
+    pub opening : w.opening ≡ v.opening
+    pub reached : Reached R v.below w.below
+    pub behind : ◌≡◌ {A = Behind} (record { cells = meaning w.below; tlb = w.tlb }) (behind_after (is_ok v.opening) (layout v.mapping) (record { cells = meaning v.below; tlb = v.tlb }) asked)
+    pub effect : is_ok v.opening ≡ true → ListEffect (layout v.mapping) (meaning v.below) (meaning w.below) asked
+
+  pub window_reached : (v w : Window P S Q) → Reached (Step WindowCells WindowCoherent WindowStep) v w → WindowReached v w
+  window_reached v w p =
+      let x =
+      passed meaning R (λ x. x.below) (λ x. x.tlb) (λ x. is_ok x.opening) (λ x. layout x.mapping) WindowCoherent WindowStep as_called
+      v w p.calls p.linked in
+      record {
+        asked = p.calls;
+        mapping = linked_keeps WindowCells WindowCoherent WindowStep (λ x. x.mapping) (λ x y c s. s.same.0) v w p.calls p.linked;
+        opening = linked_keeps WindowCells WindowCoherent WindowStep (λ x. x.opening) (λ x y c s. s.same.1) v w p.calls p.linked;
+        reached = x.reached;
+        behind = x.behind;
+        effect = x.effect;
+      }
