@@ -1,3 +1,4 @@
 pub mod SetUp
 pub mod Promise
 pub mod OverCache
+pub mod UnderCache

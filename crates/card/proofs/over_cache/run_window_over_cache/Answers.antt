@@ -3,7 +3,7 @@ use Rattle.std.proofs.Common.{sym, ap, ◌∙◌, subst}
 use Rattle.card.specs.SetUp.{values_armed}
 use Rattle.card.specs.OverCache.{OthersStand}
 use Rattle.card.proofs.Cells.{size_stands, others_stand}
-use Rattle.card.proofs.cached_runs.run_window_over_cache.Goals as goal
+use Rattle.card.proofs.over_cache.run_window_over_cache.Goals as goal
 
 pub returns-clause-ran : goal.returns-clause-ran
 returns-clause-ran g c =
