@@ -31,14 +31,19 @@ unfolding after_calls
 behind_shut l x [] = refl
 behind_shut l x (c ∷ cs) = behind_shut l x cs
 
+-- a shut window leaves every cell below
+pub left_shut : (l : Layout) (m n : Meaning) (h i : Tlb) (cs : List Call) (is_open : Bool) → is_open ≡ false → ◌≡◌ {A = Behind} (record { cells = n; tlb = i }) (behind_after is_open l (record { cells = m; tlb = h }) cs) → n ≡ m
+left_shut l m n h i cs true shut is = absurd (false≢true (sym shut))
+left_shut l m n h i cs false shut is = ap (λ x. x.cells) (is ∙ behind_shut l (record { cells = m; tlb = h }) cs)
+
 -- what a list changes below, if the window is open or not
-record Below (is_open : Bool) (l : Layout) (m n : Meaning) (cs : List Call) : Type 0 where
-  size : n.size ≡ m.size
-  others : (p : ℕ) → (StandsThere l m p → ⊥) → (MarksThere l m p → ⊥) → n.cell p ≡ m.cell p
-  table : SameTable (table_of l) m n
-  referenced : (k : ℕ) (e d : Entry) → k < (table_of l).entries → entry_read m (entry_address (table_of l) k) ≡ Ok e → entry_read n (entry_address (table_of l) k) ≡ Ok d
+pub record Below (is_open : Bool) (l : Layout) (m n : Meaning) (cs : List Call) : Type 0 where
+  pub size : n.size ≡ m.size
+  pub others : (p : ℕ) → (StandsThere l m p → ⊥) → (MarksThere l m p → ⊥) → n.cell p ≡ m.cell p
+  pub table : SameTable (table_of l) m n
+  pub referenced : (k : ℕ) (e d : Entry) → k < (table_of l).entries → entry_read m (entry_address (table_of l) k) ≡ Ok e → entry_read n (entry_address (table_of l) k) ≡ Ok d
       → Decides d.referenced ((e.referenced ≡ true) ⊎ ((is_open ≡ true) × AccessedBy AnySort l m cs k))
-  modified : (k : ℕ) (e d : Entry) → k < (table_of l).entries → entry_read m (entry_address (table_of l) k) ≡ Ok e → entry_read n (entry_address (table_of l) k) ≡ Ok d
+  pub modified : (k : ℕ) (e d : Entry) → k < (table_of l).entries → entry_read m (entry_address (table_of l) k) ≡ Ok e → entry_read n (entry_address (table_of l) k) ≡ Ok d
       → Decides d.modified ((e.modified ≡ true) ⊎ ((is_open ≡ true) × AccessedBy Writes l m cs k))
 
 below_open : (l : Layout) (m n : Meaning) (cs : List Call) → ListEffect l m n cs → Below true l m n cs
@@ -61,7 +66,7 @@ below_shut l m n cs same =
       modified = λ k x d low was is. let r = none.modified k x d low was is in (λ set. ⊎_elim inl (λ a. absurd (no_call a)) (r.0 set), ⊎_elim (λ set. r.1 (inl set)) (λ a. absurd (false≢true a.0)));
     }
 
-below_by : (is_open : Bool) (l : Layout) (m n : Meaning) (cs : List Call) → (is_open ≡ true → ListEffect l m n cs) → (is_open ≡ false → n ≡ m) → Below is_open l m n cs
+pub below_by : (is_open : Bool) (l : Layout) (m n : Meaning) (cs : List Call) → (is_open ≡ true → ListEffect l m n cs) → (is_open ≡ false → n ≡ m) → Below is_open l m n cs
 below_by true l m n cs opened shut = below_open l m n cs (opened refl)
 below_by false l m n cs opened shut = below_shut l m n cs (shut refl)
 
@@ -90,14 +95,9 @@ module _ {S : Type 0} (meaning : S → Meaning) (R : S → Call → S → Type 0
       }
 
 module _ {S : Type 0} (meaning : S → Meaning) (R : S → Call → S → Type 0) (number : ℕ) (l : Layout) (board : ℕ) (s t : S) (i : Tlb) (cs ds : List Recorded) where
-  -- a shut window leaves every cell below
-  left_shut : (is_open : Bool) → is_open ≡ false → PlayedThrough meaning R is_open l s t empty_tlb i cs ds → meaning t ≡ meaning s
-  left_shut true shut p = absurd (false≢true (sym shut))
-  left_shut false shut p = ap (λ x. x.cells) (p.behind ∙ behind_shut l (record { cells = meaning s; tlb = empty_tlb }) (calls_of cs))
-
   pub promised : (report : WindowReport) → report ≡ reported number (opening_of l (meaning s) board) i → Decides (is_ok (opening_of l (meaning s) board)) (Openable (table_of l) (meaning s) board) → PlayedThrough meaning R (is_ok (opening_of l (meaning s) board)) l s t empty_tlb i cs ds → Promise meaning R number l board s t report cs ds
   promised report reports opens p =
-      let x = below_by (is_ok (opening_of l (meaning s) board)) l (meaning s) (meaning t) (calls_of cs) p.effect (λ shut. left_shut _ shut p) in
+      let x = below_by (is_ok (opening_of l (meaning s) board)) l (meaning s) (meaning t) (calls_of cs) p.effect (λ shut. left_shut l (meaning s) (meaning t) empty_tlb i (calls_of cs) _ shut p.behind) in
       record {
         opens = opens;
         calls = p.calls;

@@ -116,13 +116,13 @@ module _ {W S : Type 0} (meaning : S → Meaning) (R : S → Call → S → Type
 
 -- the same of windows
 module _ {P S Q : Type 0} (armed : P → Type 0) (layout : P → Layout) (meaning : S → Meaning) (coherent : S → Type 0) (R : S → Call → S → Type 0) where
-  abbrev WindowCells : Window P S Q → Meaning
+  abbrev pub WindowCells : Window P S Q → Meaning
   WindowCells w = shown (is_ok w.opening) (layout w.mapping) (meaning w.below)
 
-  abbrev WindowCoherent : Window P S Q → Type 0
+  abbrev pub WindowCoherent : Window P S Q → Type 0
   WindowCoherent w = Standing (armed w.mapping) (coherent w.below) (is_ok w.opening) (layout w.mapping) (meaning w.below) w.tlb
 
-  abbrev WindowStep : Window P S Q → Call → Window P S Q → Type 0
+  abbrev pub WindowStep : Window P S Q → Call → Window P S Q → Type 0
   WindowStep before call after = Called ((after.mapping ≡ before.mapping) × (after.opening ≡ before.opening)) (Reached R before.below after.below) (is_ok before.opening) (layout before.mapping) (meaning before.below) (meaning after.below) before.tlb after.tlb call
 
   as_called : (x y : Window P S Q) (c : Call) → WindowStep x c y → Called ((layout y.mapping ≡ layout x.mapping) × (is_ok y.opening ≡ is_ok x.opening)) (Reached R x.below y.below) (is_ok x.opening) (layout x.mapping) (meaning x.below) (meaning y.below) x.tlb y.tlb c
