@@ -2,7 +2,7 @@
 use crate::copy::PlainCopy;
 use call_list::CallRecord;
 use expect::same;
-use memory::Access;
+use memory::{Access, Cause};
 use std::alloc::{AllocError, Global};
 use std::test::Fail;
 use units::{LINE, PAGE};
@@ -132,6 +132,35 @@ pub(crate) fn same_records(found: &[CallRecord], due: &[CallRecord]) -> Result<(
         same(found.address, due.address)?;
         same(found.answer, due.answer)?;
         same(found.buffer == due.buffer, true)?;
+    }
+    Ok(())
+}
+
+// So many calls of a list come to this answer.
+fn count(due: &[CallRecord], access: Access, cause: Option<Cause>) -> usize {
+    due.iter()
+        .filter(|call| call.access == access)
+        .filter(|call| call
+            .answer
+            .map(|answer| answer.err().map(|fault| fault.cause))
+            == Some(cause))
+        .count()
+}
+
+// A mixed list has at least 20 calls of each sort, whether the memory has one line or many.
+#[test]
+fn each_sort_of_call(rt: HostRuntime) -> Result<(), Fail> {
+    let heap = rt.alloc();
+    for size in [128, 2048, 12288, 65536] {
+        let mut copy = PlainCopy {
+            cells: vec![in heap; Ok(0u8); size as usize]?,
+        };
+        let due = copy.due(heap, &mixed_list(heap, 1, size)?)?;
+        for access in [Access::Read, Access::Write] {
+            for cause in [None, Some(Cause::BadRun), Some(Cause::PastEnd)] {
+                same(count(&due, access, cause) >= 20, true)?;
+            }
+        }
     }
     Ok(())
 }
