@@ -4,7 +4,7 @@ ghost use Rattle.std.specs.Prelude.{IfOk};
 use crate::layout::Card;
 use crate::sets::armed_set;
 use crate::table::{FRESH_OUT, WRITTEN, show_marks, write_half_table};
-use crate::windows::{open, show_counts};
+use crate::windows::{BEFORE, open, show_counts};
 use anyhow::{Context, bail};
 use call_list::CallRecord;
 use memory::{Access, Cause, Fault, Memory};
@@ -18,9 +18,6 @@ pub(crate) const RECORD: u32 = 3;
 
 // 1999 cents, as the list writes them.
 const NEW: [u8; 4] = [0, 0, 7, 207];
-
-// What a buffer holds that a read is to fill.
-const BEFORE: [u8; 128] = [0xAA; 128];
 
 // A call: what it does to its run, the address, its buffer before and afterwards, and its answer.
 type Step<'a> = (Access, u64, &'a [u8], &'a [u8], Result<(), Fault>);

@@ -9,8 +9,8 @@ use std::alloc::Global;
 use units::{LINE, PAGE};
 use window::{Window, WindowReport};
 
-// What a buffer holds before a read that is refused.
-const BEFORE: [u8; 128] = [0xAA; LINE as usize];
+// What a buffer holds before a read: a refused one leaves it.
+pub(crate) const BEFORE: [u8; 128] = [0xAA; LINE as usize];
 
 // A window over the whole memory, with a board for all its pages. An opening that is refused is an error.
 pub(crate) fn opened<P: Mapping, M: Memory + Drop>(

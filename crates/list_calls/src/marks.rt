@@ -3,6 +3,7 @@ ghost use Rattle.std.specs.Prelude.{IfOk};
 
 use crate::layer::Layer;
 use crate::list::{call, reading_list, words_list};
+use crate::placing::Placing;
 use crate::stack::{CHECKED_BYTES, Copied, PLAIN_BYTES, bottom, check_list};
 use call_list::CallRecord;
 use card::{WindowRun, run_window};
@@ -87,7 +88,7 @@ fn ran<P: Mapping, M: Memory + Drop>(
     Ok(memory)
 }
 
-fn check_over<P: Mapping, F: LineFormat>(
+fn check_over<P: Mapping + Placing, F: LineFormat>(
     heap: Global,
     borrowed: usize,
     case: Case,
@@ -99,6 +100,7 @@ fn check_over<P: Mapping, F: LineFormat>(
     } = bottom::<F>(heap, &mut bytes)?;
     let table = words_list(heap, case.layer.table(), case.layer.words)?;
     check_list(heap, &mut memory, &mut copy, table)?;
+    same(case.layer.over::<P>(heap, &copy)?.bytes(), case.layer.bytes)?;
     let mut board = [0; 40];
     let memory = played::<P, ByteMemory<F>>(heap, memory, &mut board, case)?;
     let mut memory = ran::<P, ByteMemory<F>>(heap, memory, &mut board, case)?;
@@ -111,7 +113,7 @@ fn check_over<P: Mapping, F: LineFormat>(
     check_list(heap, &mut memory, &mut copy, reads)
 }
 
-fn check<P: Mapping>(heap: Global, case: Case) -> Result<(), Fail> {
+fn check<P: Mapping + Placing>(heap: Global, case: Case) -> Result<(), Fail> {
     check_over::<P, CellsAlone>(heap, PLAIN_BYTES, case)?;
     check_over::<P, CheckByte>(heap, CHECKED_BYTES, case)
 }

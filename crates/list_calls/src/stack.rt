@@ -1,6 +1,5 @@
 // Windows over windows over a bottom, each with the plain copy of its cells.
-ghost use Rattle.std.specs.Prelude.{IfOk, is_ok};
-ghost use Rattle.window.specs.State.{Standing};
+ghost use Rattle.std.specs.Prelude.{IfOk};
 
 use crate::copy::PlainCopy;
 use crate::layer::Layer;
@@ -84,7 +83,7 @@ pub(crate) fn window_over<P: Mapping + Placing, M: Memory + Drop>(
     layer: Layer,
 ) -> Result<Copied<Window<P, M>>, Fail>
     requires { M.Memory.coherent below.memory }
-    ensures { IfOk result (λ c. Standing (P.Mapping.armed c.memory.mapping) (M.Memory.coherent c.memory.below) (is_ok c.memory.opening) (P.Mapping.meaning c.memory.mapping) (M.Memory.meaning c.memory.below) c.memory.tlb) }
+    ensures { IfOk result (λ c. ⟦<Window<P, M> as Memory>⟧.coherent c.memory) }
 {
     let Copied {
         mut memory,

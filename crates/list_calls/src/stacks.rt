@@ -98,7 +98,10 @@ fn two_windows(rt: HostRuntime) -> Result<(), Fail> {
     two::<Stride, Colour>(heap)?;
     two::<Colour, Transpose>(heap)?;
     two::<Transpose, Direct>(heap)?;
-    two::<Stride, Stride>(heap)
+    two::<Stride, Stride>(heap)?;
+    two::<Colour, Colour>(heap)?;
+    two::<Direct, Transpose>(heap)?;
+    two::<Transpose, Colour>(heap)
 }
 
 #[test]
@@ -107,5 +110,7 @@ fn three_windows(rt: HostRuntime) -> Result<(), Fail> {
     three::<Direct, Colour, Stride>(heap)?;
     three::<Colour, Stride, Transpose>(heap)?;
     three::<Stride, Transpose, Direct>(heap)?;
-    three::<Transpose, Direct, Colour>(heap)
+    three::<Transpose, Direct, Colour>(heap)?;
+    three::<Transpose, Stride, Colour>(heap)?;
+    three::<Stride, Direct, Stride>(heap)
 }
