@@ -1,5 +1,5 @@
 // A failing chip under a window.
-use crate::card::Card;
+use crate::layout::Card;
 use crate::records_below::show_refused_total;
 use crate::sets::armed_set;
 use crate::table::write_table;

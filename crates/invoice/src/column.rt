@@ -1,7 +1,7 @@
 // All prices, line by line, through a window.
 ghost use Rattle.std.specs.Prelude.{IfOk};
 
-use crate::card::Card;
+use crate::layout::Card;
 use crate::records_below::records_total;
 use crate::sets::armed_set;
 use crate::table::{FRESH, READ, show_marks, write_table};

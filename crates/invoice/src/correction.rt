@@ -1,7 +1,7 @@
 // One price, corrected through a window.
 ghost use Rattle.std.specs.Prelude.{IfOk};
 
-use crate::card::Card;
+use crate::layout::Card;
 use crate::records_below::read_record;
 use crate::sets::armed_set;
 use crate::table::{READ, WRITTEN, show_marks};

@@ -1,7 +1,7 @@
 // A window over a window.
 ghost use Rattle.std.specs.Prelude.{IfOk};
 
-use crate::card::Card;
+use crate::layout::Card;
 use crate::records_below::records_total;
 use crate::sets::{armed_set, show_registers};
 use crate::table::{FRESH, READ, WRITTEN, show_marks, write_table};

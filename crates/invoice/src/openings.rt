@@ -1,7 +1,7 @@
 // Openings that are refused, one for each reason.
 ghost use Rattle.std.specs.Prelude.{IfOk};
 
-use crate::card::Card;
+use crate::layout::Card;
 use crate::sets::armed_set;
 use crate::table::{Entry, write_entry};
 use crate::windows::show_report;

@@ -1,7 +1,7 @@
 // A page that is not in memory.
 ghost use Rattle.std.specs.Prelude.{IfOk};
 
-use crate::card::Card;
+use crate::layout::Card;
 use crate::sets::armed_set;
 use crate::table::{Entry, show_unmarked_out, write_entry};
 use crate::windows::{open, show_counts, show_refused_line};

@@ -1,7 +1,7 @@
 // Register sets: written, armed, and refused.
 ghost use Rattle.std.specs.Prelude.{IfOk};
 
-use crate::card::Card;
+use crate::layout::Card;
 use anyhow::{Context, bail};
 use mapping::{ArmedSet, ArmingRefusal, Mapping, RegisterSet};
 use stride::Stride;

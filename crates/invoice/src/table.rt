@@ -17,7 +17,7 @@ pub(crate) const READ: u8 = 0xC0;
 pub(crate) const WRITTEN: u8 = 0xE0;
 
 // The first byte of an entry that is valid and out, with no mark.
-const FRESH_OUT: u8 = 0x90;
+pub(crate) const FRESH_OUT: u8 = 0x90;
 
 // A valid entry, with the page that it names.
 #[derive(Clone, Copy)]
@@ -46,6 +46,15 @@ pub(crate) fn write_table<M: Memory>(memory: &mut M, table: u32, entries: u32) -
         write_entry(memory, table, number, Entry::Live(number))?;
     }
     Ok(())
+}
+
+// Writes a table of two entries, of which the first one is live and the second one out.
+pub(crate) fn write_half_table<M: Memory>(memory: &mut M, table: u32) -> anyhow::Result<()>
+    requires { M.coherent memory.old }
+    ensures { M.coherent memory.new }
+{
+    write_entry(memory, table, 0, Entry::Live(0))?;
+    write_entry(memory, table, 1, Entry::Out(1))
 }
 
 // Replaces an entry of the table that starts in this page.

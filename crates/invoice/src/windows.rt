@@ -1,6 +1,5 @@
 // Windows that open, and lines that are gathered through one.
-ghost use Rattle.std.specs.Prelude.{IfOk, is_ok};
-ghost use Rattle.window.specs.State.{Standing};
+ghost use Rattle.std.specs.Prelude.{IfOk};
 
 use anyhow::{Context, bail};
 use mapping::{ArmedSet, Mapping};
@@ -10,10 +9,27 @@ use std::alloc::Global;
 use units::{LINE, PAGE};
 use window::{Window, WindowReport};
 
-// What a buffer holds before a read that is refused.
-const BEFORE: [u8; 128] = [0xAA; LINE as usize];
+// What a buffer holds before a read: a refused one leaves it.
+pub(crate) const BEFORE: [u8; 128] = [0xAA; LINE as usize];
 
 // A window over the whole memory, with a board for all its pages. An opening that is refused is an error.
+pub(crate) fn opened<P: Mapping, M: Memory + Drop>(
+    heap: Global,
+    set: ArmedSet<P>,
+    memory: M,
+) -> anyhow::Result<Window<P, M>>
+    requires armed { P.Mapping.armed set.mapping }
+    requires coherent { M.Memory.coherent memory }
+    ensures { IfOk result (λ w. ⟦<Window<P, M> as Memory>⟧.coherent w) }
+{
+    let pages = memory.size() / PAGE;
+    let mut board = vec![in heap; 0u8; pages as usize]?;
+    let window = Window::open(set, memory, &mut board);
+    window.opening().context("a window was not opened")?;
+    Ok(window)
+}
+
+// One whose report is shown.
 pub(crate) fn open<P: Mapping, M: Memory + Drop>(
     rt: &HostRuntime,
     set: ArmedSet<P>,
@@ -21,12 +37,9 @@ pub(crate) fn open<P: Mapping, M: Memory + Drop>(
 ) -> anyhow::Result<Window<P, M>>
     requires armed { P.Mapping.armed set.mapping }
     requires coherent { M.Memory.coherent memory }
-    ensures { IfOk result (λ w. Standing (P.Mapping.armed w.mapping) (M.Memory.coherent w.below) (is_ok w.opening) (P.Mapping.meaning w.mapping) (M.Memory.meaning w.below) w.tlb) }
+    ensures { IfOk result (λ w. ⟦<Window<P, M> as Memory>⟧.coherent w) }
 {
-    let pages = memory.size() / PAGE;
-    let mut board = vec![in rt.alloc(); 0u8; pages as usize]?;
-    let window = Window::open(set, memory, &mut board);
-    window.opening().context("a window was not opened")?;
+    let window = opened(rt.alloc(), set, memory)?;
     show_report(rt, &window.report(), window.size())?;
     Ok(window)
 }

@@ -1,10 +1,10 @@
 // Lookups and fills, call by call.
 use crate::scenes::{CHECKED_BYTES, OBJECTS, PLAIN_BYTES, Scene, scene_bytes};
-use crate::script::{Call, Step, below, check_window, here};
+use crate::script::{Step, below, check_window, here};
 use checked::{CheckByte, Checked, flip};
 use direct::Direct;
 use mapping::Mapping;
-use memory::Cause;
+use memory::{Access, Cause};
 use plain::{CellsAlone, Plain};
 use std::alloc::Global;
 use std::test::Fail;
@@ -33,21 +33,21 @@ fn direct(rt: HostRuntime) -> Result<(), Fail> {
         rt.alloc(),
         scene,
         &[
-            (Call::Read, 0, 1, Ok(()), 1, 1),
-            (Call::Read, 131072, 128, Ok(()), 2, 2),
-            (Call::Read, 4095, 1, Ok(()), 3, 3),
-            (Call::Read, 100, 1, Ok(()), 4, 3),
-            (Call::Read, 131200, 1, Ok(()), 5, 4),
-            (Call::Read, 4096, 1, here(Cause::PageOut, 4096), 6, 4),
-            (Call::Read, 8192, 1, here(Cause::NoPage, 8192), 7, 4),
-            (Call::Write, 131072, 1, Ok(()), 8, 4),
-            (Call::Read, 126976, 128, Ok(()), 9, 5),
-            (Call::Read, 0, 129, here(Cause::BadRun, 0), 9, 5),
-            (Call::Read, 135168, 1, here(Cause::PastEnd, 135168), 9, 5),
-            (Call::Write, 0, 128, Ok(()), 10, 6),
-            (Call::Write, 0, 128, Ok(()), 11, 6),
-            (Call::Write, 131072, 1, Ok(()), 12, 7),
-            (Call::Read, 126976, 1, Ok(()), 13, 7),
+            (Access::Read, 0, 1, Ok(()), 1, 1),
+            (Access::Read, 131072, 128, Ok(()), 2, 2),
+            (Access::Read, 4095, 1, Ok(()), 3, 3),
+            (Access::Read, 100, 1, Ok(()), 4, 3),
+            (Access::Read, 131200, 1, Ok(()), 5, 4),
+            (Access::Read, 4096, 1, here(Cause::PageOut, 4096), 6, 4),
+            (Access::Read, 8192, 1, here(Cause::NoPage, 8192), 7, 4),
+            (Access::Write, 131072, 1, Ok(()), 8, 4),
+            (Access::Read, 126976, 128, Ok(()), 9, 5),
+            (Access::Read, 0, 129, here(Cause::BadRun, 0), 9, 5),
+            (Access::Read, 135168, 1, here(Cause::PastEnd, 135168), 9, 5),
+            (Access::Write, 0, 128, Ok(()), 10, 6),
+            (Access::Write, 0, 128, Ok(()), 11, 6),
+            (Access::Write, 131072, 1, Ok(()), 12, 7),
+            (Access::Read, 126976, 1, Ok(()), 13, 7),
         ],
     )
 }
@@ -66,9 +66,9 @@ fn displaces_nothing(rt: HostRuntime) -> Result<(), Fail> {
         scene.registers,
         Checked::new(&mut bytes),
         &[
-            (Call::Read, 0, 1, Ok(()), 1, 1),
-            (Call::Read, 131072, 1, here(Cause::PageOut, 131072), 2, 1),
-            (Call::Read, 0, 1, Ok(()), 3, 1),
+            (Access::Read, 0, 1, Ok(()), 1, 1),
+            (Access::Read, 131072, 1, here(Cause::PageOut, 131072), 2, 1),
+            (Access::Read, 0, 1, Ok(()), 3, 1),
         ],
     )?;
     // the second line of the table
@@ -78,9 +78,9 @@ fn displaces_nothing(rt: HostRuntime) -> Result<(), Fail> {
         scene.registers,
         Checked::new(&mut bytes),
         &[
-            (Call::Read, 0, 1, Ok(()), 1, 1),
-            (Call::Write, 131072, 1, below(4224), 2, 1),
-            (Call::Read, 0, 1, Ok(()), 3, 1),
+            (Access::Read, 0, 1, Ok(()), 1, 1),
+            (Access::Write, 131072, 1, below(4224), 2, 1),
+            (Access::Read, 0, 1, Ok(()), 3, 1),
         ],
     )
 }
@@ -101,12 +101,12 @@ fn competing_pages(rt: HostRuntime) -> Result<(), Fail> {
         rt.alloc(),
         scene,
         &[
-            (Call::Read, 0, 128, Ok(()), 4, 4),
-            (Call::Read, 96, 32, Ok(()), 5, 4),
-            (Call::Read, 0, 32, Ok(()), 6, 5),
-            (Call::Read, 0, 64, Ok(()), 8, 6),
-            (Call::Write, 0, 128, Ok(()), 12, 10),
-            (Call::Write, 100, 28, Ok(()), 13, 10),
+            (Access::Read, 0, 128, Ok(()), 4, 4),
+            (Access::Read, 96, 32, Ok(()), 5, 4),
+            (Access::Read, 0, 32, Ok(()), 6, 5),
+            (Access::Read, 0, 64, Ok(()), 8, 6),
+            (Access::Write, 0, 128, Ok(()), 12, 10),
+            (Access::Write, 100, 28, Ok(()), 13, 10),
         ],
     )
 }
@@ -122,11 +122,11 @@ fn refused_calls(rt: HostRuntime) -> Result<(), Fail> {
         rt.alloc(),
         objects,
         &[
-            (Call::Read, 0, 128, here(Cause::NoPage, 64), 3, 1),
-            (Call::Read, 0, 64, Ok(()), 5, 1),
-            (Call::Write, 128, 128, here(Cause::PageOut, 192), 8, 2),
-            (Call::Read, 150, 20, Ok(()), 10, 2),
-            (Call::Read, 250, 1, here(Cause::PageOut, 250), 11, 2),
+            (Access::Read, 0, 128, here(Cause::NoPage, 64), 3, 1),
+            (Access::Read, 0, 64, Ok(()), 5, 1),
+            (Access::Write, 128, 128, here(Cause::PageOut, 192), 8, 2),
+            (Access::Read, 150, 20, Ok(()), 10, 2),
+            (Access::Read, 250, 1, here(Cause::PageOut, 250), 11, 2),
         ],
     )
 }

@@ -1,12 +1,12 @@
 // Runs that are refused: which fault is answered, and that it is the only thing that comes of them.
 use crate::scenes::{CHECKED_BYTES, LIVE, OBJECTS, PLAIN_BYTES, Scene, scene_bytes};
-use crate::script::{Call, Run, below, check_opened, check_runs, here};
+use crate::script::{Run, below, check_opened, check_runs, here};
 use checked::{CheckByte, flip};
 use colour::Colour;
 use direct::Direct;
 use expect::same;
 use mapping::Mapping;
-use memory::{Cause, LineFormat};
+use memory::{Access, Cause, LineFormat};
 use plain::{CellsAlone, Plain};
 use spoilt::OneFault;
 use std::alloc::Global;
@@ -254,7 +254,7 @@ fn shut(rt: HostRuntime) -> Result<(), Fail> {
     let heap = rt.alloc();
     let mut bytes = scene_bytes::<CellsAlone>(heap, PLAIN_BYTES, LIVE)?;
     let before = bytes.to_vec(heap)?;
-    for call in [Call::Read, Call::Write] {
+    for access in [Access::Read, Access::Write] {
         check_opened::<Stride, Plain>(
             heap,
             LIVE.registers,
@@ -262,14 +262,14 @@ fn shut(rt: HostRuntime) -> Result<(), Fail> {
             &mut [0; 7],
             21,
             &[
-                (call, 0, 0, here(Cause::BadRun, 0), 0, 0),
-                (call, 0, 1, here(Cause::PastEnd, 0), 0, 0),
-                (call, 0, 128, here(Cause::PastEnd, 0), 0, 0),
-                (call, 0, 129, here(Cause::BadRun, 0), 0, 0),
-                (call, 127, 2, here(Cause::BadRun, 127), 0, 0),
-                (call, 4096, 4, here(Cause::PastEnd, 4096), 0, 0),
-                (call, LAST, 1, here(Cause::PastEnd, LAST), 0, 0),
-                (call, LAST, 2, here(Cause::BadRun, LAST), 0, 0),
+                (access, 0, 0, here(Cause::BadRun, 0), 0, 0),
+                (access, 0, 1, here(Cause::PastEnd, 0), 0, 0),
+                (access, 0, 128, here(Cause::PastEnd, 0), 0, 0),
+                (access, 0, 129, here(Cause::BadRun, 0), 0, 0),
+                (access, 127, 2, here(Cause::BadRun, 127), 0, 0),
+                (access, 4096, 4, here(Cause::PastEnd, 4096), 0, 0),
+                (access, LAST, 1, here(Cause::PastEnd, LAST), 0, 0),
+                (access, LAST, 2, here(Cause::BadRun, LAST), 0, 0),
             ],
         )?;
     }

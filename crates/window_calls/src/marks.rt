@@ -1,9 +1,9 @@
 // The marks that calls leave in the page table, and the bytes that writes leave beside them.
 use crate::scenes::{CHECKED_BYTES, OBJECTS, PLAIN_BYTES, Scene};
-use crate::script::{Call, Change, Step, check_script, here};
+use crate::script::{Change, Step, check_script, here};
 use checked::CheckByte;
 use direct::Direct;
-use memory::Cause;
+use memory::{Access, Cause};
 use plain::CellsAlone;
 use std::alloc::Global;
 use std::test::Fail;
@@ -35,14 +35,14 @@ fn reads(rt: HostRuntime) -> Result<(), Fail> {
         rt.alloc(),
         &[
             (&[], &[]),
-            (&[(Call::Read, 0, 1, Ok(()), 1, 1)], &[(4096, 1, 0xc0)]),
-            (&[(Call::Read, 64, 1, Ok(()), 1, 1)], &[(4100, 1, 0xe0)]),
+            (&[(Access::Read, 0, 1, Ok(()), 1, 1)], &[(4096, 1, 0xc0)]),
+            (&[(Access::Read, 64, 1, Ok(()), 1, 1)], &[(4100, 1, 0xe0)]),
             (
-                &[(Call::Read, 0, 128, Ok(()), 4, 2)],
+                &[(Access::Read, 0, 128, Ok(()), 4, 2)],
                 &[(4096, 1, 0xc0), (4100, 1, 0xe0)],
             ),
             // a page that is referenced already
-            (&[(Call::Read, 128, 64, Ok(()), 2, 1)], &[]),
+            (&[(Access::Read, 128, 64, Ok(()), 2, 1)], &[]),
         ],
     )
 }
@@ -53,15 +53,15 @@ fn writes(rt: HostRuntime) -> Result<(), Fail> {
         rt.alloc(),
         &[
             (
-                &[(Call::Write, 128, 1, Ok(()), 1, 1)],
+                &[(Access::Write, 128, 1, Ok(()), 1, 1)],
                 &[(4104, 1, 0xe0), (12896, 1, 0xee)],
             ),
             (
-                &[(Call::Write, 30, 4, Ok(()), 2, 1)],
+                &[(Access::Write, 30, 4, Ok(()), 2, 1)],
                 &[(4096, 1, 0xe0), (20606, 2, 0xee), (22752, 2, 0xee)],
             ),
             (
-                &[(Call::Write, 0, 128, Ok(()), 4, 2)],
+                &[(Access::Write, 0, 128, Ok(()), 4, 2)],
                 &[
                     (4096, 1, 0xe0),
                     (4100, 1, 0xe0),
@@ -83,15 +83,15 @@ fn in_turn(rt: HostRuntime) -> Result<(), Fail> {
         &[
             (
                 &[
-                    (Call::Read, 0, 1, Ok(()), 1, 1),
-                    (Call::Write, 0, 1, Ok(()), 2, 1),
+                    (Access::Read, 0, 1, Ok(()), 1, 1),
+                    (Access::Write, 0, 1, Ok(()), 2, 1),
                 ],
                 &[(4096, 1, 0xe0), (20576, 1, 0xee)],
             ),
             (
                 &[
-                    (Call::Write, 0, 1, Ok(()), 1, 1),
-                    (Call::Read, 0, 1, Ok(()), 2, 1),
+                    (Access::Write, 0, 1, Ok(()), 1, 1),
+                    (Access::Read, 0, 1, Ok(()), 2, 1),
                 ],
                 &[(4096, 1, 0xe0), (20576, 1, 0xee)],
             ),
@@ -107,14 +107,14 @@ fn refused_calls(rt: HostRuntime) -> Result<(), Fail> {
     check_cases(
         rt.alloc(),
         &[
-            (&[(Call::Read, 128, 128, out, 3, 1)], &[]),
-            (&[(Call::Write, 128, 128, out, 3, 1)], &[]),
-            (&[(Call::Write, 0, 129, bad, 0, 0)], &[]),
+            (&[(Access::Read, 128, 128, out, 3, 1)], &[]),
+            (&[(Access::Write, 128, 128, out, 3, 1)], &[]),
+            (&[(Access::Write, 0, 129, bad, 0, 0)], &[]),
             // a write to the page that a refused call has read of the table
             (
                 &[
-                    (Call::Write, 128, 128, out, 3, 1),
-                    (Call::Write, 160, 32, Ok(()), 4, 1),
+                    (Access::Write, 128, 128, out, 3, 1),
+                    (Access::Write, 160, 32, Ok(()), 4, 1),
                 ],
                 &[(4104, 1, 0xe0), (15072, 32, 0xee)],
             ),
@@ -134,11 +134,11 @@ fn displaced(rt: HostRuntime) -> Result<(), Fail> {
         PLAIN_BYTES,
         scene,
         &[
-            (Call::Read, 0, 1, Ok(()), 1, 1),
-            (Call::Read, 131072, 1, Ok(()), 2, 2),
-            (Call::Write, 4095, 1, Ok(()), 3, 3),
-            (Call::Read, 131200, 1, Ok(()), 4, 4),
-            (Call::Read, 0, 128, Ok(()), 5, 5),
+            (Access::Read, 0, 1, Ok(()), 1, 1),
+            (Access::Read, 131072, 1, Ok(()), 2, 2),
+            (Access::Write, 4095, 1, Ok(()), 3, 3),
+            (Access::Read, 131200, 1, Ok(()), 4, 4),
+            (Access::Read, 0, 128, Ok(()), 5, 5),
         ],
         &[(4096, 1, 0xe0), (4224, 1, 0xc0), (24575, 1, 0xee)],
     )

@@ -2,16 +2,10 @@
 use crate::scenes::{Scene, scene_bytes};
 use expect::{armed_set, same};
 use mapping::Mapping;
-use memory::{ByteMemory, Cause, Fault, LineFormat, Memory};
+use memory::{Access, ByteMemory, Cause, Fault, LineFormat, Memory};
 use std::alloc::Global;
 use std::test::Fail;
 use window::Window;
-
-#[derive(Clone, Copy)]
-pub(crate) enum Call {
-    Read,
-    Write,
-}
 
 pub(crate) type Answer = Result<(), Fault>;
 
@@ -34,8 +28,8 @@ pub(crate) fn below(place: u64) -> Answer {
     refused(Cause::FailedCheck, 1, place)
 }
 
-// A call, the address and the length of its run, its answer, and the counts of lookups and of fills after it.
-pub(crate) type Step = (Call, u64, usize, Answer, u64, u64);
+// What a call does to its run, the address and the length of that, its answer, and the counts of lookups and of fills after it.
+pub(crate) type Step = (Access, u64, usize, Answer, u64, u64);
 
 // Cells of the memory that a script leaves: an address, a number of cells, and the byte that each of them holds.
 pub(crate) type Change = (u64, usize, u8);
@@ -47,7 +41,7 @@ const FILL: u8 = 0xee;
 pub(crate) fn check_call<W: Memory>(
     heap: Global,
     memory: &mut W,
-    call: Call,
+    access: Access,
     a: u64,
     buffer: &mut [u8],
     answer: Answer,
@@ -56,9 +50,9 @@ pub(crate) fn check_call<W: Memory>(
     ensures { W.coherent memory.new }
 {
     let before = buffer.to_vec(heap)?;
-    let found = match call {
-        Call::Read => memory.read(a, buffer),
-        Call::Write => memory.write(a, buffer),
+    let found = match access {
+        Access::Read => memory.read(a, buffer),
+        Access::Write => memory.write(a, buffer),
     };
     same(found, answer)?;
     same(found.is_ok() || &*buffer == before.as_slice(), true)
@@ -91,9 +85,9 @@ pub(crate) fn check_opened<P: Mapping, M: Memory + Drop>(
     let mut window = Window::open(set, below, board);
     let size = if reason == 0 { registers[0] } else { 0 };
     same(window.report().reason, reason)?;
-    for (call, a, n, answer, lookups, fills) in steps {
+    for (access, a, n, answer, lookups, fills) in steps {
         let mut buffer = vec![in heap; FILL; *n]?;
-        check_call(heap, &mut window, *call, *a, &mut buffer, *answer)?;
+        check_call(heap, &mut window, *access, *a, &mut buffer, *answer)?;
         let report = window.report();
         same(report.lookups, *lookups)?;
         same(report.fills, *fills)?;
@@ -151,13 +145,13 @@ pub(crate) fn check_runs<P: Mapping, F: LineFormat>(
     runs: &[Run],
 ) -> Result<(), Fail> {
     for (a, n, answer, lookups, fills) in runs {
-        for call in [Call::Read, Call::Write] {
+        for access in [Access::Read, Access::Write] {
             let mut own = bytes.to_vec(heap)?;
             check_window::<P, ByteMemory<F>>(
                 heap,
                 scene.registers,
                 ByteMemory::<F>::new(&mut own),
-                &[(call, *a, *n, *answer, *lookups, *fills)],
+                &[(access, *a, *n, *answer, *lookups, *fills)],
             )?;
             same(answer.is_ok() || own.as_slice() == bytes, true)?;
         }

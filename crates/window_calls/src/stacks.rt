@@ -1,10 +1,10 @@
 // A window over a window.
 use crate::scenes::{CHECKED_BYTES, Entry, PLAIN_BYTES, Scene, put_entries, scene_bytes};
-use crate::script::{Answer, Call, Change, Step, change, check_window, refused};
+use crate::script::{Answer, Change, Step, change, check_window, refused};
 use crate::sweep::{Model, standing, sweep_line};
 use checked::{CheckByte, Checked, flip};
 use expect::{armed_set, same};
-use memory::{Cause, LineFormat};
+use memory::{Access, Cause, LineFormat};
 use plain::{CellsAlone, Plain};
 use std::alloc::Global;
 use std::test::Fail;
@@ -123,8 +123,8 @@ fn failed_check_of_an_object(rt: HostRuntime) -> Result<(), Fail> {
         rt.alloc(),
         201 * 129,
         &[
-            (Call::Read, 0, 128, failed_check(25824), 2, 1),
-            (Call::Write, 40, 20, failed_check(25832), 3, 1),
+            (Access::Read, 0, 128, failed_check(25824), 2, 1),
+            (Access::Write, 40, 20, failed_check(25832), 3, 1),
         ],
         &[(0, 1, 0xc0), (4, 1, 0xc0)],
     )
@@ -137,8 +137,8 @@ fn failed_check_of_the_upper_table(rt: HostRuntime) -> Result<(), Fail> {
         rt.alloc(),
         176 * 129,
         &[
-            (Call::Read, 0, 128, failed_check(22528), 1, 0),
-            (Call::Write, 100, 1, failed_check(22532), 2, 0),
+            (Access::Read, 0, 128, failed_check(22528), 1, 0),
+            (Access::Write, 100, 1, failed_check(22532), 2, 0),
         ],
         &[],
     )
@@ -151,8 +151,8 @@ fn failed_check_of_the_lower_table(rt: HostRuntime) -> Result<(), Fail> {
         rt.alloc(),
         5,
         &[
-            (Call::Read, 0, 128, failed_check(0), 1, 0),
-            (Call::Write, 100, 1, failed_check(0), 2, 0),
+            (Access::Read, 0, 128, failed_check(0), 1, 0),
+            (Access::Write, 100, 1, failed_check(0), 2, 0),
         ],
         &[],
     )
@@ -166,16 +166,30 @@ fn dead_lower_entries(rt: HostRuntime) -> Result<(), Fail> {
         (
             (3, 0x9000_0006),
             &[
-                (Call::Read, 0, 128, refused(Cause::PageOut, 1, 10464), 2, 1),
-                (Call::Write, 50, 50, refused(Cause::PageOut, 1, 10482), 3, 1),
+                (
+                    Access::Read,
+                    0,
+                    128,
+                    refused(Cause::PageOut, 1, 10464),
+                    2,
+                    1,
+                ),
+                (
+                    Access::Write,
+                    50,
+                    50,
+                    refused(Cause::PageOut, 1, 10482),
+                    3,
+                    1,
+                ),
             ],
             &[(0, 1, 0xc0), (4, 1, 0xc0)],
         ),
         (
             (0, 0x1000_0005),
             &[
-                (Call::Read, 0, 128, refused(Cause::NoPage, 1, 4096), 1, 0),
-                (Call::Write, 100, 1, refused(Cause::NoPage, 1, 4100), 2, 0),
+                (Access::Read, 0, 128, refused(Cause::NoPage, 1, 4096), 1, 0),
+                (Access::Write, 100, 1, refused(Cause::NoPage, 1, 4100), 2, 0),
             ],
             &[(4, 1, 0x80), (8, 1, 0x80)],
         ),

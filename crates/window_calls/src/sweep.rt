@@ -1,9 +1,9 @@
 // Runs of many starts and lengths, each compared byte by byte with a model of the memory at the bottom.
 use crate::scenes::{PLAIN_BYTES, Scene, scene_bytes};
-use crate::script::{Answer, Call, check_call, here};
+use crate::script::{Answer, check_call, here};
 use expect::{armed_set, same};
 use mapping::Mapping;
-use memory::{Cause, Fault, Memory};
+use memory::{Access, Cause, Fault, Memory};
 use plain::{CellsAlone, Plain};
 use std::alloc::Global;
 use std::test::Fail;
@@ -79,9 +79,9 @@ fn answer_of(model: &Model, a: u64, n: usize) -> Answer {
 }
 
 // The bytes of a buffer before its call. Those that a write puts differ from one to the next.
-fn buffer_of(heap: Global, call: Call, a: u64, n: usize) -> Result<Vec<u8>, Fail> {
+fn buffer_of(heap: Global, access: Access, a: u64, n: usize) -> Result<Vec<u8>, Fail> {
     let mut buffer = vec![in heap; FILL; n]?;
-    if let Call::Write = call {
+    if let Access::Write = access {
         let [.., mut next] = a.wrapping_mul(37).wrapping_add(n as u64).to_be_bytes();
         for byte in &mut buffer {
             next = next.wrapping_add(5);
@@ -96,40 +96,40 @@ fn check_run<W: Memory>(
     heap: Global,
     window: &mut W,
     model: &mut Model,
-    call: Call,
+    access: Access,
     a: u64,
     n: usize,
 ) -> Result<(), Fail>
     requires { W.coherent window.old }
     ensures { W.coherent window.new }
 {
-    let mut buffer = buffer_of(heap, call, a, n)?;
+    let mut buffer = buffer_of(heap, access, a, n)?;
     let answer = answer_of(model, a, n);
-    check_call(heap, window, call, a, &mut buffer, answer)?;
+    check_call(heap, window, access, a, &mut buffer, answer)?;
     if answer.is_err() {
         return Ok(());
     }
     for (i, byte) in (0..).zip(&buffer) {
-        check_cell(model, call, a.saturating_add(i), *byte)?;
+        check_cell(model, access, a.saturating_add(i), *byte)?;
     }
     Ok(())
 }
 
 // A cell of an accepted run, and the byte that was read or written there.
-fn check_cell(model: &mut Model, call: Call, s: u64, byte: u8) -> Result<(), Fail> {
+fn check_cell(model: &mut Model, access: Access, s: u64, byte: u8) -> Result<(), Fail> {
     let at = place_of(model.pieces, s).unwrap_or(u64::MAX);
     let Some(cell) = model.bytes.get_mut(at as usize) else {
         return Err(Fail::new("a cell stands outside the memory"));
     };
-    match call {
-        Call::Read => same(*cell, byte)?,
-        Call::Write => *cell = byte,
+    match access {
+        Access::Read => same(*cell, byte)?,
+        Access::Write => *cell = byte,
     }
     if let Some(piece) = piece_of(model.pieces, s) {
         for (entry, referenced, modified) in piece.marks {
-            let bits = match call {
-                Call::Read => *referenced,
-                Call::Write => *modified,
+            let bits = match access {
+                Access::Read => *referenced,
+                Access::Write => *modified,
             };
             set_bits(&mut model.bytes, *entry, bits);
         }
@@ -171,8 +171,8 @@ fn check_line<W: Memory>(
     for offset in 0..128 {
         let a = line.saturating_add(offset);
         for n in LENGTHS {
-            check_run(heap, window, model, Call::Read, a, n)?;
-            check_run(heap, window, model, Call::Write, a, n)?;
+            check_run(heap, window, model, Access::Read, a, n)?;
+            check_run(heap, window, model, Access::Write, a, n)?;
         }
     }
     Ok(())
