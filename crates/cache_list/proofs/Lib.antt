@@ -1,1 +1,4 @@
+pub mod Helds
+pub mod Holds
+pub mod Once
 pub mod Playing

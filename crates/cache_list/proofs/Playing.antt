@@ -12,7 +12,9 @@ use Rattle.call_list.specs.Played.{ListPlayed}
 use Rattle.cache.specs.declared.layer.Cache.{Cache}
 use Rattle.cache.specs.Rules.{CacheState}
 use Rattle.cache.specs.State.{Standing, Called}
-use Rattle.cache_list.specs.Played.{Behind, call_behind, behind_after, StateAfter, CachePlayed}
+use Rattle.cache_list.specs.Behind.{Behind, call_behind, behind_after}
+use Rattle.cache_list.specs.Played.{StateAfter, CachePlayed}
+use Rattle.cache_list.proofs.Helds.{held_law}
 
 -- over the caches on a memory of any kind
 module _ {S : Type 0} (meaning : S → Meaning) (coherent : S → Type 0) (R : S → Call → S → Type 0) where
@@ -76,6 +78,7 @@ module _ {S : Type 0} (meaning : S → Meaning) (coherent : S → Type 0) (R : S
           below = p.below;
           behind = p.behind;
           reached = p.reached;
+          held = held_law (Standing_behind v) (calls_of cs);
         };
         standing = list.coherent_after;
       }

@@ -1,1 +1,3 @@
+pub mod Behind
+pub mod Held
 pub mod Played
