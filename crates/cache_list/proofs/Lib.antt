@@ -1,3 +1,4 @@
+pub mod Counts
 pub mod Helds
 pub mod Holds
 pub mod Once

@@ -1,5 +1,5 @@
 -- Which lines are held after one call. Assumes nothing.
-use Rattle.std.proofs.Common.{◌≡◌, ℕ, ◌+◌, ◌/◌, ◌%◌, ◌≢◌, ◌⊎◌, Bool, true, false, cond, List, length, take, is_ok, is_some, Some, None, Ok, Err, Option, Result, sym, refl, ap, ◌∙◌, inl, inr, ⊎_elim, subst, arith}
+use Rattle.std.proofs.Common.{◌≡◌, ℕ, ◌+◌, ◌/◌, ◌%◌, ◌≢◌, ◌⊎◌, ◌&&◌, Bool, true, false, cond, List, length, take, is_ok, is_some, Some, None, Ok, Err, Option, Result, sym, refl, ap, ◌∙◌, inl, inr, ⊎_elim, subst, arith}
 use Rattle.std.specs.Prelude.{Decides}
 use Rattle.std.proofs.lemmas.Bool.{cases_Bool, both_ways, true_from_ne_false, false_from_ne_true, and_parts, and_from, not-true, not_from_false, false≢true}
 use Rattle.memory.specs.declared.fault.Fault.{Fault}
@@ -10,9 +10,10 @@ use Rattle.memory.specs.Calls.{write_answer}
 use Rattle.cache_lines.specs.declared.line.CacheLine.{CacheLine}
 use Rattle.cache_lines.specs.Lines.{find}
 use Rattle.cache_lines.specs.Sets.{line_kept, line_dropped, line_hit}
-use Rattle.cache.specs.Rules.{whole_line, line_of, prefetch_keeps, after_prefetch, first_hit, line_read, after_read, after_write}
+use Rattle.cache.specs.Rules.{whole_line, line_of, prefetch_keeps, after_prefetch, miss_keeps, first_hit, line_read, after_read, after_write}
 use Rattle.cache.proofs.Turns.{hit_held, not_held}
 use Rattle.cache_list.specs.Behind.{Behind, call_behind}
+use Rattle.cache_list.specs.Counts.{next_kept}
 use Rattle.cache_list.specs.Held.{Held, Missed, Prefetched, Keeps, Leaves}
 use Rattle.cache_list.proofs.Holds.{holds, newest, holds_hit, newest_hit, holds_dropped, holds_kept, kept_apart}
 
@@ -105,6 +106,16 @@ module _ (x : Behind) (a : ℕ) (b : List ℕ) (run : check_run x.cells.size a (
       let is : n ≡ p + 1 = w.next ∙ ap (λ i. i + 1) (sym w.read.1) in
       ((keeps_next u same).1 (λ h. w.absent (subst (Held x) (sym is) h), subst (λ i. whole_line m i ≡ true) is w.accepted), sym is)
 
+  none_first : (n : ℕ) → first_hit p s ≡ None → p ≡ n → first_hit n s ≡ Some true → ⊥
+  none_first n none is e = not_both _ none (subst (λ i. first_hit i s ≡ Some true) (sym is) e) where
+    not_both : (o : Option Bool) → o ≡ None → o ≡ Some true → ⊥
+    not_both o one two = absurd cc
+
+  quiet_first : (n : ℕ) → first_hit p s ≡ Some false → p ≡ n → first_hit n s ≡ Some true → ⊥
+  quiet_first n quiet is e = not_both _ quiet (subst (λ i. first_hit i s ≡ Some true) (sym is) e) where
+    not_both : (o : Option Bool) → o ≡ Some false → o ≡ Some true → ⊥
+    not_both o one two = false≢true cc
+
   -- the line is not held
   module _ (none : first_hit p s ≡ None) where
     absent : Held x p → ⊥
@@ -144,15 +155,10 @@ module _ (x : Behind) (a : ℕ) (b : List ℕ) (run : check_run x.cells.size a (
     turned_refused bad = subst (Turned (λ n. Keeps n x call) s)
         (sym (sets_read None none ∙ ap (λ t. cond t (after_prefetch m (p + 1) (line_kept (line_of m p false) s)) s) bad))
         (turned_none (λ n. Keeps n x call) s s
-        (λ n. ⊎_elim (no_miss n) (λ w. ⊎_elim (no_miss w.before) (λ e. no_first w.before w.read.1 e) w.cause))
+        (λ n. ⊎_elim (no_miss n) (λ w. ⊎_elim (no_miss w.before) (λ e. none_first w.before none w.read.1 e) w.cause))
         (λ n. refl)) where
           no_miss : (n : ℕ) → Missed x call n → ⊥
           no_miss n w = both_ways _ bad (subst (λ i. whole_line m i ≡ true) (sym w.read.1) w.accepted)
-
-          no_first : (n : ℕ) → p ≡ n → first_hit n s ≡ Some true → ⊥
-          no_first n is e = none_some _ none (subst (λ i. first_hit i s ≡ Some true) (sym is) e) where
-            none_some : (o : Option Bool) → o ≡ None → o ≡ Some true → ⊥
-            none_some o one two = absurd cc
 
   -- the line is held
   module _ (first : Bool) (is : first_hit p s ≡ Some first) where
@@ -176,12 +182,8 @@ module _ (x : Behind) (a : ℕ) (b : List ℕ) (run : check_run x.cells.size a (
   turned_quiet : first_hit p s ≡ Some false → Kept_by_read
   turned_quiet is = subst (Turned (λ n. Keeps n x call) s) (sym (sets_read (Some false) is))
       (turned_none (λ n. Keeps n x call) s (line_hit p s)
-      (λ n. ⊎_elim (no_miss_held false is n) (λ w. ⊎_elim (no_miss_held false is w.before) (λ e. no_first w.before w.read.1 e) w.cause))
-      (λ n. holds_hit n p s)) where
-        no_first : (n : ℕ) → p ≡ n → first_hit n s ≡ Some true → ⊥
-        no_first n same e = not_both _ is (subst (λ i. first_hit i s ≡ Some true) (sym same) e) where
-          not_both : (o : Option Bool) → o ≡ Some false → o ≡ Some true → ⊥
-          not_both o one two = false≢true cc
+      (λ n. ⊎_elim (no_miss_held false is n) (λ w. ⊎_elim (no_miss_held false is w.before) (λ e. quiet_first w.before is w.read.1 e) w.cause))
+      (λ n. holds_hit n p s))
 
   turned_taken : Kept_by_read
   turned_taken = by (first_hit p s) refl where
@@ -189,6 +191,34 @@ module _ (x : Behind) (a : ℕ) (b : List ℕ) (run : check_run x.cells.size a (
     by None e = ⊎_elim (turned_missed e) (turned_refused e) (cases_Bool (whole_line m p))
     by (Some true) e = turned_first e
     by (Some false) e = turned_quiet e
+
+  -- a prefetch keeps a line at the read, just if one is prefetched by it
+  abbrev Next : Type 0
+  Next = (n : ℕ) × Prefetched x call n
+
+  next_missed : (none : first_hit p s ≡ None) → Decides (miss_keeps m p s) Next
+  next_missed none = (
+    λ e. let both = and_parts _ _ e in (p + 1, prefetched_next (u none both.0) (same_next none both.0) (inl (missed none both.0)) both.1),
+    λ w. ⊎_elim
+        (λ k. let whole = subst (λ i. whole_line m i ≡ true) (sym w.1.read.1) k.accepted in and_from _ _ whole (next_prefetched (u none whole) (same_next none whole) w.0 w.1).0)
+        (λ e. absurd (none_first w.1.before none w.1.read.1 e)) w.1.cause,
+  )
+
+  next_hit : (first : Bool) → first_hit p s ≡ Some first → Decides (first && prefetch_keeps m (p + 1) (line_hit p s)) Next
+  next_hit true is = (
+    λ e. (p + 1, prefetched_next (line_hit p s) (holds_hit (p + 1) p s) (inr is) e),
+    λ w. (next_prefetched (line_hit p s) (holds_hit (p + 1) p s) w.0 w.1).0,
+  )
+  next_hit false is = (
+    λ e. absurd (both_ways false refl e),
+    λ w. absurd (⊎_elim (no_miss_held false is w.1.before) (λ e. quiet_first w.1.before is w.1.read.1 e) w.1.cause),
+  )
+
+  pub next_once : Decides (next_kept m p s (first_hit p s)) ((n : ℕ) × Prefetched x call n)
+  next_once = by (first_hit p s) refl where
+    by : (o : Option Bool) → first_hit p s ≡ o → Decides (next_kept m p s o) Next
+    by None e = next_missed e
+    by (Some first) e = next_hit first e
 
 ok_or_err : {f : Fault} (r : Result (Unit {0}) Fault) → r ≡ Err f → r ≡ Ok tt → ⊥
 ok_or_err r one two = absurd cc

@@ -18,6 +18,7 @@ use Rattle.cache.specs.Rules.{CacheState}
 use Rattle.cache.specs.State.{Standing}
 use Rattle.cache_list.specs.Behind.{behind_after}
 use Rattle.cache_list.specs.Held.{HeldLaw}
+use Rattle.cache_list.specs.Counts.{CountLaw, SortLaw}
 
 pub record StateAfter {S : Type 0} (meaning : S → Meaning) (R : S → Call → S → Type 0) (s : S) (o : CacheState) (cs : List Call) (k : ℕ) (t : S) : Type 0 where
   pub below : S
@@ -39,8 +40,10 @@ pub record PlayedThrough {S : Type 0} (meaning : S → Meaning) (R : S → Call 
   pub below : meaning t ≡ model (meaning s) (calls_of cs)
   pub behind : record { cells = meaning t; state = p } ≡ behind_after (record { cells = meaning s; state = o }) (calls_of cs)
   pub reached : Reached R s t
-  -- which lines are held, without going through the list
+  -- which lines are held, which calls are hits, and what is counted, by the calls that kept a line and those by which it left
   pub held : HeldLaw (record { cells = meaning s; state = o }) (calls_of cs)
+  pub sorts : SortLaw (record { cells = meaning s; state = o }) (calls_of cs)
+  pub counts : CountLaw (record { cells = meaning s; state = o }) (calls_of cs)
 
 pub record CachePlayed {S : Type 0} (meaning : S → Meaning) (coherent : S → Type 0) (R : S → Call → S → Type 0) (v w : Cache S) (cs ds : List Recorded) : Type 0 where
   pub list : PlayedThrough meaning (Step meaning coherent R) v.below w.below (record { sets = sets_of v.lines; counts = v.counts }) (record { sets = sets_of w.lines; counts = w.counts }) cs ds
