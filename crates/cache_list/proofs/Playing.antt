@@ -12,7 +12,10 @@ use Rattle.call_list.specs.Played.{ListPlayed}
 use Rattle.cache.specs.declared.layer.Cache.{Cache}
 use Rattle.cache.specs.Rules.{CacheState}
 use Rattle.cache.specs.State.{Standing, Called}
-use Rattle.cache_list.specs.Played.{Behind, call_behind, behind_after, StateAfter, CachePlayed}
+use Rattle.cache_list.specs.Behind.{Behind, call_behind, behind_after}
+use Rattle.cache_list.specs.Played.{StateAfter, CachePlayed}
+use Rattle.cache_list.proofs.Helds.{held_law}
+use Rattle.cache_list.proofs.Counts.{count_law, sort_law}
 
 -- over the caches on a memory of any kind
 module _ {S : Type 0} (meaning : S → Meaning) (coherent : S → Type 0) (R : S → Call → S → Type 0) where
@@ -64,8 +67,8 @@ module _ {S : Type 0} (meaning : S → Meaning) (coherent : S → Type 0) (R : S
         after = (passed b.state w (drop k cs) b.after).reached;
       }
 
-  pub list_on_cache : (v w : Cache S) (cs ds : List Recorded) → ListPlayed CacheCells CacheCoherent CacheStep v w cs ds → CachePlayed meaning coherent R v w cs ds
-  list_on_cache v w cs ds list =
+  pub list_on_cache : (v w : Cache S) (cs ds : List Recorded) → CacheCoherent v → ListPlayed CacheCells CacheCoherent CacheStep v w cs ds → CachePlayed meaning coherent R v w cs ds
+  list_on_cache v w cs ds standing list =
       let p = passed v w (calls_of cs) list.linked in
       record {
         list = record {
@@ -76,6 +79,9 @@ module _ {S : Type 0} (meaning : S → Meaning) (coherent : S → Type 0) (R : S
           below = p.below;
           behind = p.behind;
           reached = p.reached;
+          held = held_law (Standing_behind v) (calls_of cs);
+          sorts = sort_law (Standing_behind v) (calls_of cs);
+          counts = count_law (Standing_behind v) (calls_of cs) standing.steady.most;
         };
         standing = list.coherent_after;
       }

@@ -1,1 +1,4 @@
+pub mod Behind
+pub mod Counts
+pub mod Held
 pub mod Played

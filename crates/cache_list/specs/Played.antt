@@ -1,6 +1,4 @@
 -- What a list of calls on a cache comes to. Assumes nothing.
--- Behind: what stands behind a cache: the cells of the memory below, and what the cache has of its own
--- call_behind x c, behind_after x cs: x after the call c, and after the calls cs
 -- StateAfter meaning R s o cs k t: the memory below and what the cache has of its own after the first k of the calls cs, which led from s
 -- and o to t
 -- PlayedThrough meaning R s t o p cs ds: the calls of cs, made through a cache, came back as ds, and led the memory below from s to t, by
@@ -9,25 +7,18 @@
 -- relation
 use Rattle.std.specs.Prelude.{◌≡◌, ℕ, ◌≤◌, List, length, take}
 use Rattle.memory.specs.Meaning.{Meaning}
-use Rattle.memory.specs.Reach.{Call, Reached, Step, after_calls, cells_after}
+use Rattle.memory.specs.Reach.{Call, Reached, Step}
 use Rattle.memory.specs.Up.{cells_up}
 use Rattle.cache_lines.specs.Lines.{sets_of}
 use Rattle.call_list.specs.Record.{Recorded, calls_of}
 use Rattle.call_list.specs.Model.{played, model}
 use Rattle.call_list.specs.Law.{ListLaw}
 use Rattle.cache.specs.declared.layer.Cache.{Cache}
-use Rattle.cache.specs.Rules.{CacheState, cache_called}
+use Rattle.cache.specs.Rules.{CacheState}
 use Rattle.cache.specs.State.{Standing}
-
-pub record Behind : Type 0 where
-  pub cells : Meaning
-  pub state : CacheState
-
-abbrev pub call_behind : Behind → Call → Behind
-call_behind x c = record { cells = cells_after x.cells c; state = cache_called x.cells c x.state }
-
-abbrev pub behind_after : Behind → List Call → Behind
-behind_after x cs = after_calls call_behind x cs
+use Rattle.cache_list.specs.Behind.{behind_after}
+use Rattle.cache_list.specs.Held.{HeldLaw}
+use Rattle.cache_list.specs.Counts.{CountLaw, SortLaw}
 
 pub record StateAfter {S : Type 0} (meaning : S → Meaning) (R : S → Call → S → Type 0) (s : S) (o : CacheState) (cs : List Call) (k : ℕ) (t : S) : Type 0 where
   pub below : S
@@ -49,6 +40,10 @@ pub record PlayedThrough {S : Type 0} (meaning : S → Meaning) (R : S → Call 
   pub below : meaning t ≡ model (meaning s) (calls_of cs)
   pub behind : record { cells = meaning t; state = p } ≡ behind_after (record { cells = meaning s; state = o }) (calls_of cs)
   pub reached : Reached R s t
+  -- which lines are held, which calls are hits, and what is counted, by the calls that kept a line and those by which it left
+  pub held : HeldLaw (record { cells = meaning s; state = o }) (calls_of cs)
+  pub sorts : SortLaw (record { cells = meaning s; state = o }) (calls_of cs)
+  pub counts : CountLaw (record { cells = meaning s; state = o }) (calls_of cs)
 
 pub record CachePlayed {S : Type 0} (meaning : S → Meaning) (coherent : S → Type 0) (R : S → Call → S → Type 0) (v w : Cache S) (cs ds : List Recorded) : Type 0 where
   pub list : PlayedThrough meaning (Step meaning coherent R) v.below w.below (record { sets = sets_of v.lines; counts = v.counts }) (record { sets = sets_of w.lines; counts = w.counts }) cs ds
