@@ -23,7 +23,8 @@ use Rattle.call_list.specs.Law.{ListLaw}
 use Rattle.window_list.specs.Effect.{ListEffect}
 use Rattle.window_list.specs.Played.{Behind, behind_after}
 use Rattle.window_list.proofs.Playing.{WindowCells, WindowCoherent, WindowStep, window_reached}
-use Rattle.cache_list.specs.Played as cached
+use Rattle.cache_list.specs.Behind as cached
+use Rattle.cache_list.specs.Played as listed
 use Rattle.card.specs.declared.refusal.SetUpRefusal.{SetUpRefusal}
 use Rattle.card.specs.Promise.{opening_of, image}
 use Rattle.card.specs.UnderCache.{seen, UnderCache, RanUnderCache}
@@ -63,7 +64,7 @@ module _ {P S Q : Type 0} (armed : P → Type 0) (layout : P → Layout) (meanin
     led : (u : Window P S Q) → Reached Steps v u → Reached R s u.below
     led u p = reached_more R (only_reached R reads) (window_reached armed layout meaning coherent R v u p).reached
 
-    module _ (number : ℕ) (w : Window P S Q) (o p : CacheState) (cs ds : List Recorded) (list : cached.PlayedThrough Cells Steps v w o p cs ds) (none : o ≡ empty_cache) where
+    module _ (number : ℕ) (w : Window P S Q) (o p : CacheState) (cs ds : List Recorded) (list : listed.PlayedThrough Cells Steps v w o p cs ds) (none : o ≡ empty_cache) where
       pub under : (report : WindowReport) (cached_report : CacheReport) → report ≡ reported number w.opening w.tlb → cached_report ≡ counts.reported p.counts → Decides (is_ok (opening_of l (meaning s) board)) (Openable (table_of l) (meaning s) board) → UnderCache meaning R number l board s w.below report cached_report cs ds
       under report cached_report reports cache_reports opens =
           let r = window_reached armed layout meaning coherent R v w list.reached in

@@ -28,7 +28,7 @@ use Rattle.call_list.specs.Model.{played, model}
 use Rattle.call_list.specs.Law.{ListLaw}
 use Rattle.window_list.specs.Effect.{AccessedBy, AnySort}
 use Rattle.window_list.specs.Played.{Behind, behind_after}
-use Rattle.cache_list.specs.Played as cached
+use Rattle.cache_list.specs.Behind as cached
 use Rattle.card.specs.declared.refusal.SetUpRefusal.{SetUpRefusal}
 use Rattle.card.specs.Promise.{opening_of, image}
 

@@ -1,3 +1,4 @@
 pub mod RunExamples
 pub mod MappingExamples
 pub mod EntryExamples
+pub mod CacheExamples

@@ -1,5 +1,6 @@
-// Worked examples: of runs, computed by the library, and of runs, mappings and page table entries, proved from the definitions.
+// Worked examples: of runs, computed by the library, and of runs, mappings, page table entries and a cache, proved from the definitions.
 ghost use Rattle.std.specs.Prelude.{◌≡◌};
+ghost use Rattle.samples.specs.Caches.{CacheExamples};
 ghost use Rattle.samples.specs.Entries.{EntryExamples};
 ghost use Rattle.samples.specs.Mappings.{MappingExamples};
 ghost use Rattle.samples.specs.Runs.{run_answers, RunExamples};
@@ -19,13 +20,14 @@ pub struct RunAnswers {
     pub one: Result<(), Fault>,
 }
 
-// The worked examples of runs, computed; that they hold of every memory; and the worked examples of mappings and of
-// page table entries.
+// The worked examples of runs, computed; that they hold of every memory; and the worked examples of mappings, of page table entries
+// and of a cache.
 pub fn worked_examples() -> RunAnswers
     ensures computed { result ≡ run_answers }
     ensures runs { RunExamples }
     ensures mappings { MappingExamples }
     ensures entries { EntryExamples }
+    ensures caches { CacheExamples }
 {
     RunAnswers {
         eight: check_run(1024, 120, 8),

@@ -1,4 +1,4 @@
-// Worked examples of runs, of mappings and of page table entries.
+// Worked examples of runs, of mappings, of page table entries and of a cache.
 #![tactic(auto)]
 
 mod examples;
