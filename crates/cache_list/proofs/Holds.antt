@@ -1,45 +1,108 @@
--- Whether a line is held, and whether it was kept last, after each change. Assumes nothing.
-use Rattle.std.proofs.Common.{◌≡◌, ℕ, ◌%◌, ◌≢◌, ◌⊎◌, Bool, true, false, cond, ◌||◌, eqb, List, [], ◌∷◌, take, is_some, Some, None, Option, sym, refl, ap, ◌∙◌, inl, inr, ⊎_elim}
-use Rattle.std.specs.Prelude.{Decides}
+-- Whether a line is found, whether it is prefetched, and whether it was kept last, after each change. Assumes nothing.
+use Rattle.std.proofs.Common.{◌≡◌, ℕ, suc, ◌%◌, ◌≤◌, ◌≢◌, ◌⊎◌, Bool, true, false, cond, ◌||◌, eqb, List, [], ◌∷◌, ◌++◌, length, take, is_some, Some, None, Option, sym, refl, ap, ◌∙◌, inl, inr, ⊎_elim, arith}
+use Rattle.std.specs.Prelude.{◌↔◌}
 use Rattle.std.proofs.lemmas.Bool.{cases_eq, cond-true, cond-false, eq-eqb, ne_eqb, eqb-true, or_cases, or_left, or_right, both_ways}
+use Rattle.std.proofs.lemmas.List.{take_all}
 use Rattle.cache_lines.specs.declared.line.CacheLine.{CacheLine}
-use Rattle.cache_lines.specs.Lines.{hit_once, find, without, after_hit, held_line}
+use Rattle.cache_lines.specs.declared.sets.CacheSets.{CacheSets}
+use Rattle.cache_lines.specs.Lines.{listed, sets_of, hit_once, find, without, after_hit}
 use Rattle.cache_lines.specs.Sets.{one_changed, line_kept, line_dropped, line_hit}
-use Rattle.cache_lines.proofs.Finds.{held_dropped}
 
-some_is : {A : Type 0} (o : Option A) → is_some o ≡ true → (x : A) × (o ≡ Some x)
-some_is None e = absurd (both_ways false refl e)
-some_is (Some x) e = (x, refl)
+abbrev pub marked : Option CacheLine → Bool
+marked None = false
+marked (Some x) = x.prefetched
+
+some_marked : (o : Option CacheLine) → marked o ≡ true → is_some o ≡ true
+some_marked None e = e
+some_marked (Some x) e = refl
 
 module _ (n : ℕ) where
-  abbrev found : List CacheLine → Bool
+  abbrev pub found : List CacheLine → Bool
   found xs = is_some (find n xs)
+
+  abbrev pub fresh : List CacheLine → Bool
+  fresh xs = marked (find n xs)
 
   some_cond : (t : Bool) (x : CacheLine) (o : Option CacheLine) → is_some (cond t (Some x) o) ≡ (t || is_some o)
   some_cond true x o = refl
   some_cond false x o = refl
 
-  found_cons : (x : CacheLine) (xs : List CacheLine) → found (x ∷ xs) ≡ (eqb x.number n || found xs)
+  marked_cond : (t : Bool) (x : CacheLine) (o : Option CacheLine) → marked (cond t (Some x) o) ≡ cond t x.prefetched (marked o)
+  marked_cond true x o = refl
+  marked_cond false x o = refl
+
+  pub found_cons : (x : CacheLine) (xs : List CacheLine) → found (x ∷ xs) ≡ (eqb x.number n || found xs)
   unfolding find
   found_cons x xs = some_cond (eqb x.number n) x (find n xs)
 
-  found_one : (xs : List CacheLine) → found (take 1 xs) ≡ true → found xs ≡ true
+  pub fresh_cons : (x : CacheLine) (xs : List CacheLine) → fresh (x ∷ xs) ≡ cond (eqb x.number n) x.prefetched (fresh xs)
   unfolding find
-  found_one [] e = e
-  found_one (x ∷ xs) e = found_cons x xs ∙ ⊎_elim (λ h. or_left _ _ h) (λ h. absurd (both_ways false refl h)) (or_cases _ _ (sym (found_cons x []) ∙ e))
+  fresh_cons x xs = marked_cond (eqb x.number n) x (find n xs)
 
-  found_without : (k : ℕ) (xs : List CacheLine) → n ≢ k → found (without k xs) ≡ found xs
+  find_past : (x : CacheLine) (xs : List CacheLine) → x.number ≢ n → find n (x ∷ xs) ≡ find n xs
+  unfolding find
+  find_past x xs ne = cond-false _ _ _ (ne_eqb x.number n ne)
+
+  find_behind : (x : CacheLine) (xs ys : List CacheLine) → find n xs ≡ find n ys → find n (x ∷ xs) ≡ find n (x ∷ ys)
+  unfolding find
+  find_behind x xs ys e = ap (cond (eqb x.number n) (Some x)) e
+
+  pub none_found : found [] ≡ true → ⊥
+  unfolding find
+  none_found e = both_ways false refl e
+
+  found_head : (x : CacheLine) → found (x ∷ []) ≡ true → x.number ≡ n
+  found_head x e = ⊎_elim (eqb-true x.number n) (λ h. absurd (none_found h)) (or_cases _ _ (sym (found_cons x []) ∙ e))
+
+  pub found_one : (xs : List CacheLine) → found (take 1 xs) ≡ true → found xs ≡ true
+  found_one [] e = e
+  found_one (x ∷ xs) e = found_cons x xs ∙ or_left _ _ (eq-eqb x.number n (found_head x e))
+
+  pub fresh_one : (xs : List CacheLine) → found (take 1 xs) ≡ true → fresh (take 1 xs) ≡ fresh xs
+  fresh_one [] e = refl
+  fresh_one (x ∷ xs) e =
+      let here = eq-eqb x.number n (found_head x e) in
+      fresh_cons x [] ∙ cond-true _ _ _ here ∙ sym (fresh_cons x xs ∙ cond-true _ _ _ here)
+
+  pub found_fresh : (xs : List CacheLine) → fresh xs ≡ true → found xs ≡ true
+  found_fresh xs e = some_marked (find n xs) e
+
+  -- the line of another number
+  module _ (k : ℕ) (ne : n ≢ k) where
+    find_without : (xs : List CacheLine) → find n (without k xs) ≡ find n xs
+    unfolding without
+    find_without [] = refl
+    find_without (x ∷ xs) = ⊎_elim
+        (λ is. ap (find n) (cond-true _ _ _ (eq-eqb x.number k is)) ∙ find_without xs ∙ sym (find_past x xs (λ h. ne (sym h ∙ is))))
+        (λ no. ap (find n) (cond-false _ _ _ (ne_eqb x.number k no)) ∙ find_behind x (without k xs) xs (find_without xs))
+        (cases_eq x.number k)
+
+    find_after_hit : (xs : List CacheLine) → find n (after_hit k xs) ≡ find n xs
+    unfolding after_hit
+    find_after_hit [] = refl
+    find_after_hit (x ∷ xs) = ⊎_elim
+        (λ is.
+        let no : x.number ≢ n = λ h. ne (sym h ∙ is) in
+        ap (find n) (cond-true _ _ _ (eq-eqb x.number k is)) ∙ find_past (hit_once x) xs no ∙ sym (find_past x xs no))
+        (λ no. ap (find n) (cond-false _ _ _ (ne_eqb x.number k no)) ∙ find_behind x (after_hit k xs) xs (find_after_hit xs))
+        (cases_eq x.number k)
+
+  gone : (xs : List CacheLine) → found (without n xs) ≡ true → ⊥
   unfolding without
-  found_without k [] ne = refl
-  found_without k (x ∷ xs) ne =
-      ⊎_elim
-      (λ is.
-      ap found (cond-true _ _ _ (eq-eqb x.number k is)) ∙ found_without k xs ne
-      ∙ sym (found_cons x xs ∙ ap (λ t. t || found xs) (ne_eqb x.number n (λ h. ne (sym h ∙ is)))))
-      (λ no.
-      ap found (cond-false _ _ _ (ne_eqb x.number k no)) ∙ found_cons x (without k xs)
-      ∙ ap (λ t. eqb x.number n || t) (found_without k xs ne) ∙ sym (found_cons x xs))
-      (cases_eq x.number k)
+  gone [] e = none_found e
+  gone (x ∷ xs) e = ⊎_elim
+      (λ is. gone xs (sym (ap found (cond-true _ _ _ (eq-eqb x.number n is))) ∙ e))
+      (λ no. ⊎_elim (λ h. no (eqb-true x.number n h)) (gone xs)
+      (or_cases _ _ (sym (ap found (cond-false _ _ _ (ne_eqb x.number n no)) ∙ found_cons x (without n xs)) ∙ e)))
+      (cases_eq x.number n)
+
+  hit_clears : (xs : List CacheLine) → fresh (after_hit n xs) ≡ false
+  unfolding find after_hit
+  hit_clears [] = refl
+  hit_clears (x ∷ xs) = ⊎_elim
+      (λ is. let here = eq-eqb x.number n is in ap fresh (cond-true _ _ _ here) ∙ fresh_cons (hit_once x) xs ∙ cond-true _ _ _ here)
+      (λ no. let past = ne_eqb x.number n no in ap fresh (cond-false _ _ _ past) ∙ fresh_cons x (after_hit n xs) ∙ cond-false _ _ _ past ∙ hit_clears xs)
+      (cases_eq x.number n)
 
   found_after_hit : (k : ℕ) (xs : List CacheLine) → found (after_hit k xs) ≡ found xs
   unfolding after_hit
@@ -57,23 +120,70 @@ module _ (n : ℕ) where
     by true = found_cons (hit_once x) [] ∙ sym (found_cons x [])
     by false = refl
 
+length_after_hit : (k : ℕ) (xs : List CacheLine) → length (after_hit k xs) ≡ length xs
+unfolding after_hit
+length_after_hit k [] = refl
+length_after_hit k (x ∷ xs) = by (eqb x.number k) (length_after_hit k xs) where
+  by : (t : Bool) → length (after_hit k xs) ≡ length xs → length (cond t (hit_once x ∷ xs) (x ∷ after_hit k xs)) ≡ length (x ∷ xs)
+  by true rest = refl
+  by false rest = ap suc rest
+
+length_without : (k : ℕ) (xs : List CacheLine) → length (without k xs) ≤ length xs
+unfolding without
+length_without k [] = omega arith
+length_without k (x ∷ xs) = by (eqb x.number k) (length_without k xs) where
+  by : (t : Bool) → length (without k xs) ≤ length xs → length (cond t (without k xs) (x ∷ without k xs)) ≤ length (x ∷ xs)
+  by true rest = omega (arith, rest)
+  by false rest = omega (arith, rest)
+
+-- of at most two lines, what is first once those of one number left
+newest_without : (n k : ℕ) (xs : List CacheLine) → length xs ≤ 2 → (found n (take 1 (without k xs)) ≡ true) ↔ ((n ≢ k) × ((found n (take 1 xs) ≡ true) ⊎ ((found k (take 1 xs) ≡ true) × (found n xs ≡ true))))
+unfolding without
+newest_without n k [] few = (λ e. absurd (none_found n e), λ h. ⊎_elim (λ w. w) (λ w. absurd (none_found n w.1)) h.1)
+newest_without n k (x ∷ xs) few = ⊎_elim here past (cases_eq x.number k) where
+  here : x.number ≡ k → (found n (take 1 (without k (x ∷ xs))) ≡ true) ↔ ((n ≢ k) × ((found n (x ∷ []) ≡ true) ⊎ ((found k (x ∷ []) ≡ true) × (found n (x ∷ xs) ≡ true))))
+  here is =
+      let left : take 1 (without k (x ∷ xs)) ≡ without k xs =
+      ap (take 1) (cond-true _ _ _ (eq-eqb x.number k is)) ∙ take_all 1 (without k xs) (omega (arith, few, length_without k xs)) in (
+        λ e.
+            let f : found n (without k xs) ≡ true = sym (ap (found n) left) ∙ e in
+            let ne : n ≢ k = λ w. gone k xs (ap (λ i. found i (without k xs)) (sym w) ∙ f) in
+            (ne, inr (found_cons k x [] ∙ or_left _ _ (eq-eqb x.number k is), found_cons n x xs ∙ or_right _ _ (sym (ap is_some (find_without n k ne xs)) ∙ f))),
+        λ h.
+            let no : x.number ≢ n = λ w. h.0 (sym w ∙ is) in
+            ap (found n) left ∙ ap is_some (find_without n k h.0 xs)
+            ∙ ⊎_elim (λ w. absurd (no (found_head n x w))) (λ w. sym (ap is_some (find_past n x xs no)) ∙ w.1) h.1,
+      )
+
+  past : x.number ≢ k → (found n (take 1 (without k (x ∷ xs))) ≡ true) ↔ ((n ≢ k) × ((found n (x ∷ []) ≡ true) ⊎ ((found k (x ∷ []) ≡ true) × (found n (x ∷ xs) ≡ true))))
+  past ne =
+      let same : take 1 (without k (x ∷ xs)) ≡ x ∷ [] = ap (take 1) (cond-false _ _ _ (ne_eqb x.number k ne)) in (
+        λ e. let f : found n (x ∷ []) ≡ true = sym (ap (found n) same) ∙ e in ((λ w. ne (found_head n x f ∙ w)), inl f),
+        λ h. ap (found n) same ∙ ⊎_elim (λ w. w) (λ w. absurd (ne (found_head k x w.0))) h.1,
+      )
+
+-- of the line n in the sets s
 abbrev pub holds : ℕ → (ℕ → List CacheLine) → Bool
-holds n s = is_some (held_line n s)
+holds n s = found n (s (n % 8))
+
+abbrev pub first : ℕ → (ℕ → List CacheLine) → Bool
+first n s = fresh n (s (n % 8))
 
 abbrev pub newest : ℕ → (ℕ → List CacheLine) → Bool
-newest n s = is_some (find n (take 1 (s (n % 8))))
+newest n s = found n (take 1 (s (n % 8)))
 
 module _ (n k : ℕ) (f : List CacheLine → List CacheLine) (s : ℕ → List CacheLine) where
   in_set : n % 8 ≡ k % 8 → one_changed k f s (n % 8) ≡ f (s (n % 8))
   in_set is = cond-true _ _ _ (eq-eqb (n % 8) (k % 8) is)
 
-  pub out_of_set : n % 8 ≢ k % 8 → one_changed k f s (n % 8) ≡ s (n % 8)
+  out_of_set : n % 8 ≢ k % 8 → one_changed k f s (n % 8) ≡ s (n % 8)
   out_of_set ne = cond-false _ _ _ (ne_eqb (n % 8) (k % 8) ne)
 
   -- what no change of a set tells, no change of one of the sets does
   alike : {X : Type 0} (g : List CacheLine → X) → ((xs : List CacheLine) → g (f xs) ≡ g xs) → g (one_changed k f s (n % 8)) ≡ g (s (n % 8))
   alike g same = ⊎_elim (λ is. ap g (in_set is) ∙ same (s (n % 8))) (λ ne. ap g (out_of_set ne)) (cases_eq (n % 8) (k % 8))
 
+-- after a hit, and after a drop, of the line k
 module _ (n k : ℕ) (s : ℕ → List CacheLine) where
   pub holds_hit : holds n (line_hit k s) ≡ holds n s
   unfolding line_hit
@@ -83,44 +193,71 @@ module _ (n k : ℕ) (s : ℕ → List CacheLine) where
   unfolding line_hit
   newest_hit = alike n k (after_hit k) s (λ xs. found n (take 1 xs)) (newest_after_hit n k)
 
-  holds_left : n ≢ k → holds n (line_dropped k s) ≡ holds n s
+  pub first_hit_other : n ≢ k → first n (line_hit k s) ≡ first n s
+  unfolding line_hit
+  first_hit_other ne = alike n k (after_hit k) s (fresh n) (λ xs. ap marked (find_after_hit n k ne xs))
+
+  pub length_hit : length (line_hit k s (n % 8)) ≡ length (s (n % 8))
+  unfolding line_hit
+  length_hit = alike n k (after_hit k) s length (length_after_hit k)
+
+  pub dropped_other : n ≢ k → (holds n (line_dropped k s) ≡ holds n s) × (first n (line_dropped k s) ≡ first n s)
   unfolding line_dropped
-  holds_left ne = alike n k (without k) s (found n) (λ xs. found_without n k xs ne)
+  dropped_other ne = (
+    alike n k (without k) s (found n) (λ xs. ap is_some (find_without n k ne xs)),
+    alike n k (without k) s (fresh n) (λ xs. ap marked (find_without n k ne xs)),
+  )
 
-  pub holds_dropped : Decides (holds n (line_dropped k s)) ((n ≢ k) × (holds n s ≡ true))
-  holds_dropped = (dropped, λ h. holds_left h.0 ∙ h.1) where
-    dropped : holds n (line_dropped k s) ≡ true → (n ≢ k) × (holds n s ≡ true)
-    dropped e =
-        let y = some_is (held_line n (line_dropped k s)) e in
-        let h = held_dropped n y.0 s k y.1 in
-        (h.0, ap is_some h.1)
+  pub newest_dropped : length (s (n % 8)) ≤ 2 → (newest n (line_dropped k s) ≡ true) ↔ ((n ≢ k) × ((newest n s ≡ true) ⊎ ((k % 8 ≡ n % 8) × (newest k s ≡ true) × (holds n s ≡ true))))
+  unfolding line_dropped
+  newest_dropped few = ⊎_elim same other (cases_eq (n % 8) (k % 8)) where
+    same : n % 8 ≡ k % 8 → (newest n (one_changed k (without k) s) ≡ true) ↔ ((n ≢ k) × ((newest n s ≡ true) ⊎ ((k % 8 ≡ n % 8) × (newest k s ≡ true) × (holds n s ≡ true))))
+    same is =
+        let now = ap (λ xs. found n (take 1 xs)) (in_set n k (without k) s is) in
+        let at : found k (take 1 (s (n % 8))) ≡ newest k s = ap (λ i. found k (take 1 (s i))) is in
+        let h = newest_without n k (s (n % 8)) few in (
+          λ e. let w = h.0 (sym now ∙ e) in (w.0, ⊎_elim inl (λ v. inr (sym is, sym at ∙ v.0, v.1)) w.1),
+          λ w. now ∙ h.1 (w.0, ⊎_elim inl (λ v. inr (at ∙ v.1, v.2)) w.1),
+        )
 
-module _ (n : ℕ) (y : CacheLine) (s : ℕ → List CacheLine) where
-  -- another set is as it was
-  pub kept_apart : n % 8 ≢ y.number % 8 → line_kept y s (n % 8) ≡ s (n % 8)
-  unfolding line_kept
-  kept_apart ne = out_of_set n y.number (λ xs. take 2 (y ∷ xs)) s ne
+    other : n % 8 ≢ k % 8 → (newest n (one_changed k (without k) s) ≡ true) ↔ ((n ≢ k) × ((newest n s ≡ true) ⊎ ((k % 8 ≡ n % 8) × (newest k s ≡ true) × (holds n s ≡ true))))
+    other ne =
+        let now = ap (λ xs. found n (take 1 xs)) (out_of_set n k (without k) s ne) in (
+          λ e. ((λ w. ne (ap (λ i. i % 8) w)), inl (sym now ∙ e)),
+          λ w. now ∙ ⊎_elim (λ v. v) (λ v. absurd (ne (sym v.0))) w.1,
+        )
 
-  kept_in_set : n % 8 ≡ y.number % 8 → holds n (line_kept y s) ≡ (eqb y.number n || newest n s)
-  unfolding line_kept
-  kept_in_set is = ap (found n) (in_set n y.number (λ xs. take 2 (y ∷ xs)) s is) ∙ found_cons n y (take 1 (s (n % 8)))
+  pub length_dropped : length (s (n % 8)) ≤ 2 → length (line_dropped k s (n % 8)) ≤ 2
+  unfolding line_dropped
+  length_dropped few = ⊎_elim
+      (λ is. omega (arith, few, ap length (in_set n k (without k) s is), length_without k (s (n % 8))))
+      (λ ne. omega (arith, few, ap length (out_of_set n k (without k) s ne)))
+      (cases_eq (n % 8) (k % 8))
 
-  -- it was kept, or it was held, and is the newest one if another was kept in its set
-  abbrev Kept_or_left : Type 0
-  Kept_or_left = (y.number ≡ n) ⊎ ((holds n s ≡ true) × (y.number ≢ n → y.number % 8 ≡ n % 8 → newest n s ≡ true))
+module _ (n : ℕ) (s : ℕ → List CacheLine) where
+  pub first_hit_here : first n (line_hit n s) ≡ false
+  unfolding line_hit
+  first_hit_here = ap (fresh n) (in_set n n (after_hit n) s refl) ∙ hit_clears n (s (n % 8))
 
-  pub holds_kept : Decides (holds n (line_kept y s)) ((y.number ≡ n) ⊎ ((holds n s ≡ true) × (y.number ≢ n → y.number % 8 ≡ n % 8 → newest n s ≡ true)))
-  holds_kept = ⊎_elim same other (cases_eq (n % 8) (y.number % 8)) where
-    same : n % 8 ≡ y.number % 8 → Decides (holds n (line_kept y s)) Kept_or_left
-    same is = (
-      λ e. ⊎_elim (λ h. inl (eqb-true y.number n h)) (λ h. inr (found_one n (s (n % 8)) h, λ ne w. h)) (or_cases _ _ (sym (kept_in_set is) ∙ e)),
-      λ h. kept_in_set is ∙ ⊎_elim
-          (λ w. or_left _ _ (eq-eqb y.number n w))
-          (λ w. ⊎_elim (λ q. or_left _ _ (eq-eqb y.number n q)) (λ ne. or_right _ _ (w.1 ne (sym is))) (cases_eq y.number n)) h,
-    )
+  pub dropped_here : holds n (line_dropped n s) ≡ true → ⊥
+  unfolding line_dropped
+  dropped_here e = gone n (s (n % 8)) (sym (ap (found n) (in_set n n (without n) s refl)) ∙ e)
 
-    other : n % 8 ≢ y.number % 8 → Decides (holds n (line_kept y s)) Kept_or_left
-    other ne = (
-      λ e. inr (sym (ap (found n) (kept_apart ne)) ∙ e, λ no w. absurd (ne (sym w))),
-      ⊎_elim (λ w. absurd (ne (ap (λ i. i % 8) (sym w)))) (λ w. ap (found n) (kept_apart ne) ∙ w.0),
-    )
+  -- the line y is kept
+  module _ (y : CacheLine) where
+    pub kept_apart : n % 8 ≢ y.number % 8 → line_kept y s (n % 8) ≡ s (n % 8)
+    unfolding line_kept
+    kept_apart ne = out_of_set n y.number (λ xs. take 2 (y ∷ xs)) s ne
+
+    pub kept_in_set : n % 8 ≡ y.number % 8 → line_kept y s (n % 8) ≡ y ∷ take 1 (s (n % 8))
+    unfolding line_kept
+    kept_in_set is = in_set n y.number (λ xs. take 2 (y ∷ xs)) s is
+
+-- a set has no third line
+pub two_ways : (s : CacheSets) (k : ℕ) → length (sets_of s k) ≤ 2
+two_ways s k = by _ _ where
+  by : (a b : Option CacheLine) → length (listed a ++ listed b) ≤ 2
+  by None None = omega arith
+  by None (Some y) = omega arith
+  by (Some x) None = omega arith
+  by (Some x) (Some y) = omega arith

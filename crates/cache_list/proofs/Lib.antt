@@ -3,3 +3,4 @@ pub mod Helds
 pub mod Holds
 pub mod Once
 pub mod Playing
+pub mod Sets
