@@ -13,7 +13,7 @@ use Rattle.cache_lines.specs.Sets.{line_dropped}
 use Rattle.cache.specs.Rules.{after_write}
 use Rattle.cache_list.specs.Behind.{Behind, call_behind}
 use Rattle.cache_list.specs.Held.{ReadOf, Held, IsPrefetched, Newest, Prefetches, Keeps, Drops, Covers, Leaves, Uncovers}
-use Rattle.cache_list.proofs.Holds.{marked, found, fresh, found_cons, fresh_cons, found_one, fresh_one, found_fresh, none_found, holds, first, newest, dropped_other, dropped_here, newest_dropped, length_dropped}
+use Rattle.cache_lines.proofs.Holds.{is_prefetched, found, prefetched_in, found_cons, prefetched_cons, found_one, prefetched_one, found_prefetched, none_found, holds, prefetched, newest, dropped_other, dropped_here, newest_dropped, length_dropped}
 use Rattle.cache_list.proofs.Sets.{Kept_one, Kept_none, Read_once, read_once, ok_or_err}
 
 -- of each set at most two lines are held
@@ -23,15 +23,15 @@ Two_ways x = (n : ℕ) → length (x.state.sets (n % 8)) ≤ 2
 abbrev Held_once : ℕ → Behind → Call → (ℕ → List CacheLine) → Type 0
 Held_once n x c t = (holds n t ≡ true) ↔ (Keeps n x c ⊎ (Held n x × (Leaves n x c → ⊥)))
 
-abbrev First_once : ℕ → Behind → Call → (ℕ → List CacheLine) → Type 0
-First_once n x c t = (first n t ≡ true) ↔ (Prefetches n x c ⊎ ((first n x.state.sets ≡ true) × (ReadOf n x c ⊎ Leaves n x c → ⊥)))
+abbrev Prefetched_once : ℕ → Behind → Call → (ℕ → List CacheLine) → Type 0
+Prefetched_once n x c t = (prefetched n t ≡ true) ↔ (Prefetches n x c ⊎ ((prefetched n x.state.sets ≡ true) × (ReadOf n x c ⊎ Leaves n x c → ⊥)))
 
 abbrev Newest_once : ℕ → Behind → Call → (ℕ → List CacheLine) → Type 0
 Newest_once n x c t = (newest n t ≡ true) ↔ ((Keeps n x c ⊎ Uncovers n x c) ⊎ (Newest n x × (Drops n x c ⊎ Covers n x c → ⊥)))
 
 record Set_once (n : ℕ) (x : Behind) (c : Call) (t : ℕ → List CacheLine) : Type 0 where
   held : Held_once n x c t
-  first : First_once n x c t
+  prefetched : Prefetched_once n x c t
   newest : Newest_once n x c t
   long : length (t (n % 8)) ≤ 2
 
@@ -57,8 +57,8 @@ module _ (n : ℕ) (x : Behind) (a : ℕ) (b : List ℕ) (t : ℕ → List Cache
     newest_now : newest n t ≡ (eqb k.line.number n || found n [])
     newest_now = ap (λ xs. found n (take 1 xs)) k.is ∙ found_cons n k.line []
 
-    first_now : first n t ≡ cond (eqb k.line.number n) k.line.prefetched (fresh n (take 1 u))
-    first_now = ap (fresh n) k.is ∙ fresh_cons n k.line (take 1 u)
+    prefetched_now : prefetched n t ≡ cond (eqb k.line.number n) k.line.prefetched (prefetched_in n (take 1 u))
+    prefetched_now = ap (prefetched_in n) k.is ∙ prefetched_cons n k.line (take 1 u)
 
     -- the kept line is the one that is asked about
     module _ (is : k.line.number ≡ n) where
@@ -71,13 +71,13 @@ module _ (n : ℕ) (x : Behind) (a : ℕ) (b : List ℕ) (t : ℕ → List Cache
       newest_it : Newest_once n x c t
       newest_it = (λ e. inl (inl keeps_it), λ h. newest_now ∙ or_left _ _ (eq-eqb _ _ is))
 
-      first_it : First_once n x c t
-      first_it =
-          let now = first_now ∙ cond-true _ _ _ (eq-eqb _ _ is) in (
+      prefetched_it : Prefetched_once n x c t
+      prefetched_it =
+          let now = prefetched_now ∙ cond-true _ _ _ (eq-eqb _ _ is) in (
             λ e. inl (subst (λ i. Prefetches i x c) is (k.prefetched.0 (sym now ∙ e))),
             λ h. now ∙ ⊎_elim
                 (λ w. k.prefetched.1 (subst (λ i. Prefetches i x c) (sym is) w))
-                (λ w. absurd (keeps_absent n x c keeps_it (found_fresh n s w.0))) h,
+                (λ w. absurd (keeps_absent n x c keeps_it (found_prefetched n s w.0))) h,
           )
 
     -- or another one of its set
@@ -105,22 +105,22 @@ module _ (n : ℕ) (x : Behind) (a : ℕ) (b : List ℕ) (t : ℕ → List Cache
         λ h. absurd (⊎_elim (⊎_elim not_kept (λ w. w.drops)) (λ w. w.1 (inr cover)) h),
       )
 
-      first_other : First_once n x c t
-      first_other =
-          let now : first n t ≡ fresh n (take 1 u) = first_now ∙ cond-false _ _ _ (ne_eqb _ _ ne) in (
+      prefetched_other : Prefetched_once n x c t
+      prefetched_other =
+          let now : prefetched n t ≡ prefetched_in n (take 1 u) = prefetched_now ∙ cond-false _ _ _ (ne_eqb _ _ ne) in (
             λ e.
-                let new : newest n r.u ≡ true = found_fresh n (take 1 u) (sym now ∙ e) in
-                let w = r.first.0 (sym (fresh_one n u new) ∙ sym now ∙ e) in
+                let new : newest n r.u ≡ true = found_prefetched n (take 1 u) (sym now ∙ e) in
+                let w = r.prefetched.0 (sym (prefetched_one n u new) ∙ sym now ∙ e) in
                 inr (w.0, ⊎_elim w.1 (⊎_elim (λ d. d) (λ o. o.1 (sym r.newest ∙ new)))),
             ⊎_elim
                 (λ w. absurd (not_kept (inr w)))
-                (λ w. now ∙ fresh_one n u (was_newest (λ l. w.1 (inr l))) ∙ r.first.1 (w.0, λ q. w.1 (inl q))),
+                (λ w. now ∙ prefetched_one n u (was_newest (λ l. w.1 (inr l))) ∙ r.prefetched.1 (w.0, λ q. w.1 (inl q))),
           )
 
     set_kept : length s ≤ 2 → Set_once n x c t
     set_kept few = record {
       held = ⊎_elim held_it held_other (cases_eq k.line.number n);
-      first = ⊎_elim first_it first_other (cases_eq k.line.number n);
+      prefetched = ⊎_elim prefetched_it prefetched_other (cases_eq k.line.number n);
       newest = ⊎_elim newest_it newest_other (cases_eq k.line.number n);
       long = omega (arith, ap length k.is, length-take 1 u);
     }
@@ -133,12 +133,12 @@ module _ (n : ℕ) (x : Behind) (a : ℕ) (b : List ℕ) (t : ℕ → List Cache
     set_left few =
         let held = ap (found n) k.is ∙ r.holds in
         let new = ap (λ xs. found n (take 1 xs)) k.is ∙ r.newest in
-        let one = ap (fresh n) k.is in
+        let one = ap (prefetched_in n) k.is in
         record {
           held = (λ e. inr (sym held ∙ e, stays), ⊎_elim (λ w. absurd (k.none n w refl)) (λ w. held ∙ w.0));
-          first = (
-            λ e. let w = r.first.0 (sym one ∙ e) in inr (w.0, ⊎_elim w.1 stays),
-            ⊎_elim (λ w. absurd (k.none n (inr w) refl)) (λ w. one ∙ r.first.1 (w.0, λ q. w.1 (inl q))),
+          prefetched = (
+            λ e. let w = r.prefetched.0 (sym one ∙ e) in inr (w.0, ⊎_elim w.1 stays),
+            ⊎_elim (λ w. absurd (k.none n (inr w) refl)) (λ w. one ∙ r.prefetched.1 (w.0, λ q. w.1 (inl q))),
           );
           newest = (
             λ e. inr (sym new ∙ e, ⊎_elim (λ d. d) (λ o. k.none o.other o.keeps o.same_set)),
@@ -166,8 +166,8 @@ module _ (n : ℕ) (x : Behind) (a : ℕ) (bs : List ℕ) (few : length (x.state
           λ e. let ne = other e in inr (sym (dropped_other n p x.state.sets ne).0 ∙ e, stays ne),
           ⊎_elim (λ w. absurd (no_keeping n w)) (λ w. (dropped_other n p x.state.sets (λ e. w.1 (inl (ok, sym e)))).0 ∙ w.0),
         );
-        first = (
-          λ e. let ne = other (found_fresh n (line_dropped p x.state.sets (n % 8)) e) in inr (sym (dropped_other n p x.state.sets ne).1 ∙ e, ⊎_elim (λ q. q) (stays ne)),
+        prefetched = (
+          λ e. let ne = other (found_prefetched n (line_dropped p x.state.sets (n % 8)) e) in inr (sym (dropped_other n p x.state.sets ne).1 ∙ e, ⊎_elim (λ q. q) (stays ne)),
           ⊎_elim (λ w. absurd w.read) (λ w. (dropped_other n p x.state.sets (λ e. w.1 (inr (inl (ok, sym e))))).1 ∙ w.0),
         );
         newest = (
@@ -191,7 +191,7 @@ module _ (n : ℕ) (x : Behind) (a : ℕ) (bs : List ℕ) (few : length (x.state
       let stays : Leaves n x d → ⊥ = ⊎_elim (λ w. ok_or_err _ bad w.0) (λ o. no_keeping o.0.other o.0.keeps) in
       record {
         held = (λ e. inr (e, stays), ⊎_elim (λ w. absurd (no_keeping n w)) (λ w. w.0));
-        first = (λ e. inr (e, ⊎_elim (λ q. q) stays), ⊎_elim (λ w. absurd w.read) (λ w. w.0));
+        prefetched = (λ e. inr (e, ⊎_elim (λ q. q) stays), ⊎_elim (λ w. absurd w.read) (λ w. w.0));
         newest = (
           λ e. inr (e, ⊎_elim (λ w. ok_or_err _ bad w.0) (λ o. no_keeping o.other o.keeps)),
           ⊎_elim (⊎_elim (λ w. absurd (no_keeping n w)) (λ w. absurd (ok_or_err _ bad w.drops.0))) (λ w. w.0),
@@ -216,9 +216,9 @@ set_once n x (writing a bs) few = by (write_answer x.cells a (length bs)) refl w
   by (Ok u) e = subst (Set_once n x (writing a bs)) (left (Ok u) e) (set_dropped n x a bs few e)
   by (Err f) e = subst (Set_once n x (writing a bs)) (left (Err f) e) (set_refused n x a bs few f e)
 
-first_is : (o : Option CacheLine) → (option_map (λ y. y.prefetched) o ≡ Some true) ↔ (marked o ≡ true)
-first_is None = ((λ e. let z : ◌≡◌ {A = ℕ} 0 1 = cc in absurd (omega arith)), λ e. absurd (both_ways false refl e))
-first_is (Some y) = ((λ e. cc), λ e. ap Some e)
+prefetched_is : (o : Option CacheLine) → (option_map (λ y. y.prefetched) o ≡ Some true) ↔ (is_prefetched o ≡ true)
+prefetched_is None = ((λ e. let z : ◌≡◌ {A = ℕ} 0 1 = cc in absurd (omega arith)), λ e. absurd (both_ways false refl e))
+prefetched_is (Some y) = ((λ e. cc), λ e. ap Some e)
 
 module _ (n : ℕ) (x : Behind) (c : Call) (two : Two_ways x) where
   pub held_once : Held n (call_behind x c) ↔ (Keeps n x c ⊎ (Held n x × (Leaves n x c → ⊥)))
@@ -226,9 +226,9 @@ module _ (n : ℕ) (x : Behind) (c : Call) (two : Two_ways x) where
 
   pub prefetched_once : IsPrefetched n (call_behind x c) ↔ (Prefetches n x c ⊎ (IsPrefetched n x × (ReadOf n x c ⊎ Leaves n x c → ⊥)))
   prefetched_once =
-      let h = (set_once n x c (two n)).first in
-      let now = first_is (held n (call_behind x c)) in
-      let was = first_is (held n x) in (
+      let h = (set_once n x c (two n)).prefetched in
+      let now = prefetched_is (held n (call_behind x c)) in
+      let was = prefetched_is (held n x) in (
         λ e. ⊎_elim inl (λ w. inr (was.1 w.0, w.1)) (h.0 (now.0 e)),
         λ e. now.1 (h.1 (⊎_elim inl (λ w. inr (was.0 w.0, w.1)) e)),
       ) where

@@ -15,7 +15,7 @@ use Rattle.cache.specs.State.{Standing, Called}
 use Rattle.cache_list.specs.Behind.{Behind, call_behind, behind_after}
 use Rattle.cache_list.specs.Played.{StateAfter, CachePlayed}
 use Rattle.cache_list.proofs.Helds.{held_law}
-use Rattle.cache_list.proofs.Holds.{two_ways}
+use Rattle.cache_lines.proofs.Holds.{two_ways}
 use Rattle.cache_list.proofs.Counts.{count_law, sort_law}
 
 -- over the caches on a memory of any kind

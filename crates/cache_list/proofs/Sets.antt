@@ -13,7 +13,7 @@ use Rattle.cache.proofs.Turns.{hit_held, not_held}
 use Rattle.cache_list.specs.Behind.{Behind, call_behind}
 use Rattle.cache_list.specs.Counts.{next_kept}
 use Rattle.cache_list.specs.Held.{ReadOf, Held, IsPrefetched, Misses, Prefetches, Keeps}
-use Rattle.cache_list.proofs.Holds.{found, found_fresh, holds, first, newest, holds_hit, newest_hit, first_hit_other, first_hit_here, length_hit, kept_apart, kept_in_set}
+use Rattle.cache_lines.proofs.Holds.{found, found_prefetched, holds, prefetched, newest, holds_hit, newest_hit, prefetched_hit_other, prefetched_hit_here, length_hit, kept_apart, kept_in_set}
 
 next_set : (p : ℕ) → p % 8 ≡ (p + 1) % 8 → ⊥
 next_set p e = omega (arith, e)
@@ -37,9 +37,20 @@ pub record Read_once (x : Behind) (c : Call) (n : ℕ) (t : ℕ → List CacheLi
   pub u : ℕ → List CacheLine
   pub holds : holds n u ≡ holds n x.state.sets
   pub newest : newest n u ≡ newest n x.state.sets
-  pub first : (first n u ≡ true) ↔ ((first n x.state.sets ≡ true) × (ReadOf n x c → ⊥))
+  pub prefetched : (prefetched n u ≡ true) ↔ ((prefetched n x.state.sets ≡ true) × (ReadOf n x c → ⊥))
   pub long : length (u (n % 8)) ≡ length (x.state.sets (n % 8))
   pub set : Kept_one x c n u t ⊎ Kept_none x c n u t
+
+-- where there is no hit
+unhit : (x : Behind) (c : Call) (n : ℕ) (t : ℕ → List CacheLine) → (prefetched n x.state.sets ≡ true → ReadOf n x c → ⊥) → Kept_one x c n x.state.sets t ⊎ Kept_none x c n x.state.sets t → Read_once x c n t
+unhit x c n t none set = record {
+  u = x.state.sets;
+  holds = refl;
+  newest = refl;
+  prefetched = (λ e. (e, none e), λ w. w.0);
+  long = refl;
+  set = set;
+}
 
 -- a read that causes 1 and 2 do not refuse
 module _ (x : Behind) (a : ℕ) (b : List ℕ) (run : check_run x.cells.size a (length b) ≡ Ok tt) where
@@ -119,9 +130,8 @@ module _ (x : Behind) (a : ℕ) (b : List ℕ) (run : check_run x.cells.size a (
     not_one : None ≡ Some true → ⊥
     not_one e = let z : ◌≡◌ {A = ℕ} 0 1 = cc in omega arith
 
-    -- so it is no hit, and changes nothing
-    first_missed : (n : ℕ) → (first n s ≡ true) ↔ ((first n s ≡ true) × (ReadOf n x call → ⊥))
-    first_missed n = (λ e. (e, λ r. absent (subst (λ i. Held i x) (sym r.1) (found_fresh n (s (n % 8)) e))), λ w. w.0)
+    no_first : (n : ℕ) → prefetched n s ≡ true → ReadOf n x call → ⊥
+    no_first n e r = absent (subst (λ i. Held i x) (sym r.1) (found_prefetched n (s (n % 8)) e))
 
     module _ (whole : whole_line m p ≡ true) where
       abbrev v : ℕ → List CacheLine
@@ -159,35 +169,21 @@ module _ (x : Behind) (a : ℕ) (b : List ℕ) (run : check_run x.cells.size a (
 
       once_missed : (n : ℕ) → Read_once x call n t
       once_missed n = subst (Read_once x call n) (sym (sets_read None none ∙ ap (λ q. cond q (after_prefetch m (p + 1) v) s) whole))
-          (record {
-            u = s;
-            holds = refl;
-            newest = refl;
-            first = first_missed n;
-            long = refl;
-            set = ⊎_elim (λ is. inl (own_set n is)) (other_set n) (cases_eq (n % 8) (p % 8));
-          })
+          (unhit x call n (after_prefetch m (p + 1) v) (no_first n) (⊎_elim (λ is. inl (own_set n is)) (other_set n) (cases_eq (n % 8) (p % 8))))
 
     once_refused : whole_line m p ≡ false → (n : ℕ) → Read_once x call n t
     once_refused bad n = subst (Read_once x call n) (sym (sets_read None none ∙ ap (λ q. cond q (after_prefetch m (p + 1) (line_kept (line_of m p false) s)) s) bad))
-        (record {
-          u = s;
-          holds = refl;
-          newest = refl;
-          first = first_missed n;
-          long = refl;
-          set = inr (record {
-            none = λ o k w. ⊎_elim (no_miss o) (λ f. ⊎_elim (no_miss f.before) (not_first f.before None none not_one f.read.1) f.cause) k;
-            is = refl;
-          });
-        }) where
+        (unhit x call n s (no_first n) (inr (record {
+          none = λ o k w. ⊎_elim (no_miss o) (λ f. ⊎_elim (no_miss f.before) (not_first f.before None none not_one f.read.1) f.cause) k;
+          is = refl;
+        }))) where
           no_miss : (o : ℕ) → Misses o x call → ⊥
           no_miss o w = both_ways _ bad (subst (λ i. whole_line m i ≡ true) (sym w.read.1) w.accepted)
 
   -- the line is held
-  module _ (first_one : Bool) (is : first_hit p s ≡ Some first_one) where
+  module _ (one : Bool) (is : first_hit p s ≡ Some one) where
     held_read : Held p x
-    held_read = let y = hit_held _ first_one (sym is) in ap is_some y.1
+    held_read = let y = hit_held _ one (sym is) in ap is_some y.1
 
     no_miss_held : (n : ℕ) → Misses n x call → ⊥
     no_miss_held n w = w.absent (subst (λ i. Held i x) w.read.1 held_read)
@@ -195,20 +191,20 @@ module _ (x : Behind) (a : ℕ) (b : List ℕ) (run : check_run x.cells.size a (
     abbrev h : ℕ → List CacheLine
     h = line_hit p s
 
-    first_read : (n : ℕ) → (first n h ≡ true) ↔ ((first n s ≡ true) × (ReadOf n x call → ⊥))
-    first_read n = ⊎_elim
+    prefetched_read : (n : ℕ) → (prefetched n h ≡ true) ↔ ((prefetched n s ≡ true) × (ReadOf n x call → ⊥))
+    prefetched_read n = ⊎_elim
         (λ e. (
-          λ w. absurd (both_ways _ (first_hit_here p s) (subst (λ i. first i h ≡ true) e w)),
+          λ w. absurd (both_ways _ (prefetched_hit_here p s) (subst (λ i. prefetched i h ≡ true) e w)),
           λ w. absurd (w.1 (run, sym e)),
         ))
         (λ ne. (
-          λ w. (sym (first_hit_other n p s ne) ∙ w, λ r. ne (sym r.1)),
-          λ w. first_hit_other n p s ne ∙ w.0,
+          λ w. (sym (prefetched_hit_other n p s ne) ∙ w, λ r. ne (sym r.1)),
+          λ w. prefetched_hit_other n p s ne ∙ w.0,
         ))
         (cases_eq n p)
 
     once_hit : (n : ℕ) → Kept_one x call n h t ⊎ Kept_none x call n h t → Read_once x call n t
-    once_hit n set = record { u = h; holds = holds_hit n p s; newest = newest_hit n p s; first = first_read n; long = length_hit n p s; set = set }
+    once_hit n set = record { u = h; holds = holds_hit n p s; newest = newest_hit n p s; prefetched = prefetched_read n; long = length_hit n p s; set = set }
 
   once_first : first_hit p s ≡ Some true → (n : ℕ) → Read_once x call n t
   once_first is n = once_hit true is n
@@ -269,11 +265,5 @@ read_once x a b n = by (check_run x.cells.size a (length b)) refl where
   by (Ok u) e = once_taken x a b e n
   by (Err f) e = subst (Read_once x (reading a b) n)
       (sym (ap (λ r. (cond (is_ok r) (line_read x.cells (a / 128) (first_hit (a / 128) x.state.sets) x.state) x.state).sets) e))
-      (record {
-        u = x.state.sets;
-        holds = refl;
-        newest = refl;
-        first = (λ w. (w, λ r. ok_or_err _ e r.0), λ w. w.0);
-        long = refl;
-        set = inr (record { none = λ o k w. ⊎_elim (λ f. ok_or_err _ e f.read.0) (λ f. ok_or_err _ e f.read.0) k; is = refl });
-      })
+      (unhit x (reading a b) n x.state.sets (λ w r. ok_or_err _ e r.0)
+      (inr (record { none = λ o k w. ⊎_elim (λ f. ok_or_err _ e f.read.0) (λ f. ok_or_err _ e f.read.0) k; is = refl })))

@@ -7,41 +7,38 @@ use Rattle.cache_lines.specs.declared.line.CacheLine.{CacheLine}
 use Rattle.cache_lines.specs.declared.sets.CacheSets.{CacheSets}
 use Rattle.cache_lines.specs.Lines.{listed, sets_of, hit_once, find, without, after_hit}
 use Rattle.cache_lines.specs.Sets.{one_changed, line_kept, line_dropped, line_hit}
+use Rattle.cache_lines.proofs.Finds.{find_past}
 
-abbrev pub marked : Option CacheLine → Bool
-marked None = false
-marked (Some x) = x.prefetched
+abbrev pub is_prefetched : Option CacheLine → Bool
+is_prefetched None = false
+is_prefetched (Some x) = x.prefetched
 
-some_marked : (o : Option CacheLine) → marked o ≡ true → is_some o ≡ true
-some_marked None e = e
-some_marked (Some x) e = refl
+some_prefetched : (o : Option CacheLine) → is_prefetched o ≡ true → is_some o ≡ true
+some_prefetched None e = e
+some_prefetched (Some x) e = refl
 
 module _ (n : ℕ) where
   abbrev pub found : List CacheLine → Bool
   found xs = is_some (find n xs)
 
-  abbrev pub fresh : List CacheLine → Bool
-  fresh xs = marked (find n xs)
+  abbrev pub prefetched_in : List CacheLine → Bool
+  prefetched_in xs = is_prefetched (find n xs)
 
   some_cond : (t : Bool) (x : CacheLine) (o : Option CacheLine) → is_some (cond t (Some x) o) ≡ (t || is_some o)
   some_cond true x o = refl
   some_cond false x o = refl
 
-  marked_cond : (t : Bool) (x : CacheLine) (o : Option CacheLine) → marked (cond t (Some x) o) ≡ cond t x.prefetched (marked o)
-  marked_cond true x o = refl
-  marked_cond false x o = refl
+  prefetched_cond : (t : Bool) (x : CacheLine) (o : Option CacheLine) → is_prefetched (cond t (Some x) o) ≡ cond t x.prefetched (is_prefetched o)
+  prefetched_cond true x o = refl
+  prefetched_cond false x o = refl
 
   pub found_cons : (x : CacheLine) (xs : List CacheLine) → found (x ∷ xs) ≡ (eqb x.number n || found xs)
   unfolding find
   found_cons x xs = some_cond (eqb x.number n) x (find n xs)
 
-  pub fresh_cons : (x : CacheLine) (xs : List CacheLine) → fresh (x ∷ xs) ≡ cond (eqb x.number n) x.prefetched (fresh xs)
+  pub prefetched_cons : (x : CacheLine) (xs : List CacheLine) → prefetched_in (x ∷ xs) ≡ cond (eqb x.number n) x.prefetched (prefetched_in xs)
   unfolding find
-  fresh_cons x xs = marked_cond (eqb x.number n) x (find n xs)
-
-  find_past : (x : CacheLine) (xs : List CacheLine) → x.number ≢ n → find n (x ∷ xs) ≡ find n xs
-  unfolding find
-  find_past x xs ne = cond-false _ _ _ (ne_eqb x.number n ne)
+  prefetched_cons x xs = prefetched_cond (eqb x.number n) x (find n xs)
 
   find_behind : (x : CacheLine) (xs ys : List CacheLine) → find n xs ≡ find n ys → find n (x ∷ xs) ≡ find n (x ∷ ys)
   unfolding find
@@ -58,14 +55,14 @@ module _ (n : ℕ) where
   found_one [] e = e
   found_one (x ∷ xs) e = found_cons x xs ∙ or_left _ _ (eq-eqb x.number n (found_head x e))
 
-  pub fresh_one : (xs : List CacheLine) → found (take 1 xs) ≡ true → fresh (take 1 xs) ≡ fresh xs
-  fresh_one [] e = refl
-  fresh_one (x ∷ xs) e =
+  pub prefetched_one : (xs : List CacheLine) → found (take 1 xs) ≡ true → prefetched_in (take 1 xs) ≡ prefetched_in xs
+  prefetched_one [] e = refl
+  prefetched_one (x ∷ xs) e =
       let here = eq-eqb x.number n (found_head x e) in
-      fresh_cons x [] ∙ cond-true _ _ _ here ∙ sym (fresh_cons x xs ∙ cond-true _ _ _ here)
+      prefetched_cons x [] ∙ cond-true _ _ _ here ∙ sym (prefetched_cons x xs ∙ cond-true _ _ _ here)
 
-  pub found_fresh : (xs : List CacheLine) → fresh xs ≡ true → found xs ≡ true
-  found_fresh xs e = some_marked (find n xs) e
+  pub found_prefetched : (xs : List CacheLine) → prefetched_in xs ≡ true → found xs ≡ true
+  found_prefetched xs e = some_prefetched (find n xs) e
 
   -- the line of another number
   module _ (k : ℕ) (ne : n ≢ k) where
@@ -73,7 +70,7 @@ module _ (n : ℕ) where
     unfolding without
     find_without [] = refl
     find_without (x ∷ xs) = ⊎_elim
-        (λ is. ap (find n) (cond-true _ _ _ (eq-eqb x.number k is)) ∙ find_without xs ∙ sym (find_past x xs (λ h. ne (sym h ∙ is))))
+        (λ is. ap (find n) (cond-true _ _ _ (eq-eqb x.number k is)) ∙ find_without xs ∙ sym (find_past n x xs (λ h. ne (sym h ∙ is))))
         (λ no. ap (find n) (cond-false _ _ _ (ne_eqb x.number k no)) ∙ find_behind x (without k xs) xs (find_without xs))
         (cases_eq x.number k)
 
@@ -83,7 +80,7 @@ module _ (n : ℕ) where
     find_after_hit (x ∷ xs) = ⊎_elim
         (λ is.
         let no : x.number ≢ n = λ h. ne (sym h ∙ is) in
-        ap (find n) (cond-true _ _ _ (eq-eqb x.number k is)) ∙ find_past (hit_once x) xs no ∙ sym (find_past x xs no))
+        ap (find n) (cond-true _ _ _ (eq-eqb x.number k is)) ∙ find_past n (hit_once x) xs no ∙ sym (find_past n x xs no))
         (λ no. ap (find n) (cond-false _ _ _ (ne_eqb x.number k no)) ∙ find_behind x (after_hit k xs) xs (find_after_hit xs))
         (cases_eq x.number k)
 
@@ -96,12 +93,12 @@ module _ (n : ℕ) where
       (or_cases _ _ (sym (ap found (cond-false _ _ _ (ne_eqb x.number n no)) ∙ found_cons x (without n xs)) ∙ e)))
       (cases_eq x.number n)
 
-  hit_clears : (xs : List CacheLine) → fresh (after_hit n xs) ≡ false
+  hit_clears : (xs : List CacheLine) → prefetched_in (after_hit n xs) ≡ false
   unfolding find after_hit
   hit_clears [] = refl
   hit_clears (x ∷ xs) = ⊎_elim
-      (λ is. let here = eq-eqb x.number n is in ap fresh (cond-true _ _ _ here) ∙ fresh_cons (hit_once x) xs ∙ cond-true _ _ _ here)
-      (λ no. let past = ne_eqb x.number n no in ap fresh (cond-false _ _ _ past) ∙ fresh_cons x (after_hit n xs) ∙ cond-false _ _ _ past ∙ hit_clears xs)
+      (λ is. let here = eq-eqb x.number n is in ap prefetched_in (cond-true _ _ _ here) ∙ prefetched_cons (hit_once x) xs ∙ cond-true _ _ _ here)
+      (λ no. let past = ne_eqb x.number n no in ap prefetched_in (cond-false _ _ _ past) ∙ prefetched_cons x (after_hit n xs) ∙ cond-false _ _ _ past ∙ hit_clears xs)
       (cases_eq x.number n)
 
   found_after_hit : (k : ℕ) (xs : List CacheLine) → found (after_hit k xs) ≡ found xs
@@ -166,8 +163,8 @@ newest_without n k (x ∷ xs) few = ⊎_elim here past (cases_eq x.number k) whe
 abbrev pub holds : ℕ → (ℕ → List CacheLine) → Bool
 holds n s = found n (s (n % 8))
 
-abbrev pub first : ℕ → (ℕ → List CacheLine) → Bool
-first n s = fresh n (s (n % 8))
+abbrev pub prefetched : ℕ → (ℕ → List CacheLine) → Bool
+prefetched n s = prefetched_in n (s (n % 8))
 
 abbrev pub newest : ℕ → (ℕ → List CacheLine) → Bool
 newest n s = found n (take 1 (s (n % 8)))
@@ -193,19 +190,19 @@ module _ (n k : ℕ) (s : ℕ → List CacheLine) where
   unfolding line_hit
   newest_hit = alike n k (after_hit k) s (λ xs. found n (take 1 xs)) (newest_after_hit n k)
 
-  pub first_hit_other : n ≢ k → first n (line_hit k s) ≡ first n s
+  pub prefetched_hit_other : n ≢ k → prefetched n (line_hit k s) ≡ prefetched n s
   unfolding line_hit
-  first_hit_other ne = alike n k (after_hit k) s (fresh n) (λ xs. ap marked (find_after_hit n k ne xs))
+  prefetched_hit_other ne = alike n k (after_hit k) s (prefetched_in n) (λ xs. ap is_prefetched (find_after_hit n k ne xs))
 
   pub length_hit : length (line_hit k s (n % 8)) ≡ length (s (n % 8))
   unfolding line_hit
   length_hit = alike n k (after_hit k) s length (length_after_hit k)
 
-  pub dropped_other : n ≢ k → (holds n (line_dropped k s) ≡ holds n s) × (first n (line_dropped k s) ≡ first n s)
+  pub dropped_other : n ≢ k → (holds n (line_dropped k s) ≡ holds n s) × (prefetched n (line_dropped k s) ≡ prefetched n s)
   unfolding line_dropped
   dropped_other ne = (
     alike n k (without k) s (found n) (λ xs. ap is_some (find_without n k ne xs)),
-    alike n k (without k) s (fresh n) (λ xs. ap marked (find_without n k ne xs)),
+    alike n k (without k) s (prefetched_in n) (λ xs. ap is_prefetched (find_without n k ne xs)),
   )
 
   pub newest_dropped : length (s (n % 8)) ≤ 2 → (newest n (line_dropped k s) ≡ true) ↔ ((n ≢ k) × ((newest n s ≡ true) ⊎ ((k % 8 ≡ n % 8) × (newest k s ≡ true) × (holds n s ≡ true))))
@@ -235,9 +232,9 @@ module _ (n k : ℕ) (s : ℕ → List CacheLine) where
       (cases_eq (n % 8) (k % 8))
 
 module _ (n : ℕ) (s : ℕ → List CacheLine) where
-  pub first_hit_here : first n (line_hit n s) ≡ false
+  pub prefetched_hit_here : prefetched n (line_hit n s) ≡ false
   unfolding line_hit
-  first_hit_here = ap (fresh n) (in_set n n (after_hit n) s refl) ∙ hit_clears n (s (n % 8))
+  prefetched_hit_here = ap (prefetched_in n) (in_set n n (after_hit n) s refl) ∙ hit_clears n (s (n % 8))
 
   pub dropped_here : holds n (line_dropped n s) ≡ true → ⊥
   unfolding line_dropped
