@@ -123,7 +123,9 @@ fn check_first<F: LineFormat>(
 fn check(heap: Global, case: Case) -> Result<(), Fail> {
     same(case.afters.len(), case.steps.len().saturating_add(1))?;
     for (number, after) in case.afters.iter().enumerate() {
-        let steps = case.steps.get(..number).unwrap_or(&[]);
+        let Some(steps) = case.steps.get(..number) else {
+            return Err(Fail::new("there are fewer calls"));
+        };
         check_first::<CellsAlone>(heap, PLAIN_BYTES, case, steps, *after)?;
         check_first::<CheckByte>(heap, CHECKED_BYTES, case, steps, *after)?;
     }
