@@ -26,6 +26,25 @@ const NEXT: u64 = 16;
 // The calls, none of them made yet, and the records that are due once they were.
 type Lists = (Vec<CallRecord>, Vec<CallRecord>);
 
+#[derive(Clone, Copy)]
+enum Place {
+    UnderWindow,
+    OverWindow,
+}
+
+// Where the cache stands, the price that is written, how deep a fault of the window is, and the counts that are due: lookups and fills of the
+// window, and reads, hits, prefetches and the share of the cache.
+#[derive(Clone, Copy)]
+struct Case {
+    place: Place,
+    new: u32,
+    depth: u8,
+    window: [u64; 2],
+    cache: [u64; 4],
+}
+
+// Under the window the line of the table is hit three times, that of the price once, and the one that came with the price once. Over it line 0
+// is read again after the write, and line 1 refused whenever it is read ahead.
 pub(crate) fn show_caches<M: Memory + Drop>(
     rt: &HostRuntime,
     memory: M,
@@ -35,68 +54,75 @@ pub(crate) fn show_caches<M: Memory + Drop>(
     ensures { IfOk result M.Memory.coherent }
 {
     println!(rt; "The list, and a read of the next price, on a window over a cache:")?;
-    let memory = show_window_over_cache(rt, memory, card)?;
-    println!(rt; "And on a cache over a window:")?;
-    show_cache_over_window(rt, memory, card)
-}
-
-// The opening reads the table's line through the cache. Of the window's reads of entries, prices and marks the line of the table is held at
-// three, and that of the price at one; the last one is the first hit of the line that came with the price.
-fn show_window_over_cache<M: Memory + Drop>(
-    rt: &HostRuntime,
-    memory: M,
-    card: Card,
-) -> anyhow::Result<M>
-    requires { M.Memory.coherent memory }
-    ensures { IfOk result M.Memory.coherent }
-{
-    let mut memory = memory;
-    let (mut calls, due) = lists(rt, &mut memory, card, LOWERED, 0)?;
-    let mut board = vec![in rt.alloc(); 0u8; card.whole() as usize]?;
-    let run = run_window_over_cache::<Stride, M>(
-        &two_lines(card.table()),
-        memory,
-        &mut board,
-        &mut calls,
-    );
-    let CachedRun {
-        memory,
-        outcome,
-        cache,
-    } = run;
-    let Ok(window) = outcome else {
-        bail!("the set-up was refused");
+    let under = Case {
+        place: Place::UnderWindow,
+        new: LOWERED,
+        depth: 0,
+        window: [6, 1],
+        cache: [10, 5, 3, 500],
     };
-    show_records(rt, &calls, &due)?;
-    show_both(rt, &window, cache, (6, 1), [10, 5, 3, 500])?;
-    show_left(rt, memory, card, LOWERED)
+    let memory = show_case(rt, memory, card, under)?;
+    println!(rt; "And on a cache over a window:")?;
+    let over = Case {
+        place: Place::OverWindow,
+        new: LOWERED_AGAIN,
+        depth: 1,
+        window: [70, 1],
+        cache: [4, 1, 0, 250],
+    };
+    show_case(rt, memory, card, over)
 }
 
-// The cache reads line 0 through the window, anew after the write. Line 1 is refused whenever it is read ahead.
-fn show_cache_over_window<M: Memory + Drop>(
+// Makes the calls, and shows each with its answer, the prices that were read, and what is left.
+fn show_case<M: Memory + Drop>(
     rt: &HostRuntime,
     memory: M,
     card: Card,
+    case: Case,
 ) -> anyhow::Result<M>
     requires { M.Memory.coherent memory }
     ensures { IfOk result M.Memory.coherent }
 {
     let mut memory = memory;
-    let (mut calls, due) = lists(rt, &mut memory, card, LOWERED_AGAIN, 1)?;
+    let (mut calls, due) = lists(rt, &mut memory, card, case)?;
     let mut board = vec![in rt.alloc(); 0u8; card.whole() as usize]?;
-    let run = run_cache_over_window::<Stride, M>(
-        &two_lines(card.table()),
-        memory,
-        &mut board,
-        &mut calls,
-    );
+    let run = run_with_cache(case.place, card, memory, &mut board, &mut calls);
     let CacheRun { memory, outcome } = run;
     let Ok((window, cache)) = outcome else {
         bail!("the set-up was refused");
     };
     show_records(rt, &calls, &due)?;
-    show_both(rt, &window, cache, (70, 1), [4, 1, 0, 250])?;
-    show_left(rt, memory, card, LOWERED_AGAIN)
+    show_both(rt, &window, cache, case)?;
+    show_left(rt, memory, card, case.new)
+}
+
+// The calls on a window of two lines, with a cache under it or over it.
+fn run_with_cache<M: Memory + Drop>(
+    place: Place,
+    card: Card,
+    memory: M,
+    board: &mut [u8],
+    calls: &mut [CallRecord],
+) -> CacheRun<M>
+    requires { M.Memory.coherent memory }
+    ensures { M.Memory.coherent result.memory }
+{
+    let writes = two_lines(card.table());
+    match place {
+        Place::UnderWindow => {
+            let run = run_window_over_cache::<Stride, M>(&writes, memory, board, calls);
+            let CachedRun {
+                memory,
+                outcome,
+                cache,
+            } = run;
+            CacheRun {
+                memory,
+                outcome: outcome.map(|window| (window, cache)),
+            }
+        }
+        Place::OverWindow => run_cache_over_window::<Stride, M>(&writes, memory, board, calls),
+    }
 }
 
 // Writes the table, and makes the list with a read of the next price at its end.
@@ -104,8 +130,7 @@ fn lists<M: Memory>(
     rt: &HostRuntime,
     memory: &mut M,
     card: Card,
-    new: u32,
-    depth: u8,
+    case: Case,
 ) -> anyhow::Result<Lists>
     requires { M.coherent memory.old }
     ensures { M.coherent memory.new }
@@ -114,7 +139,7 @@ fn lists<M: Memory>(
     write_half_table(memory, card.table())?;
     let price = read_price(memory, RECORD).context("the price was not read")?;
     let next = read_price(memory, RECORD + 1).context("the next price was not read")?;
-    let (mut calls, mut due) = calls_and_due(heap, price, new, depth)?;
+    let (mut calls, mut due) = calls_and_due(heap, price, case.new, case.depth)?;
     calls.push(record(heap, Access::Read, NEXT, &BEFORE[..4], None)?)?;
     due.push(record(heap, Access::Read, NEXT, &next.to_be_bytes(), Some(Ok(())))?)?;
     Ok((calls, due))
@@ -143,8 +168,7 @@ fn show_both(
     rt: &HostRuntime,
     window: &WindowReport,
     cache: CacheReport,
-    (lookups, fills): (u64, u64),
-    due: [u64; 4],
+    due: Case,
 ) -> anyhow::Result<()> {
     show_counts(rt, window)?;
     let CacheReport {
@@ -154,10 +178,10 @@ fn show_both(
         share,
     } = cache;
     println!(rt; "  reads {reads}, hits {hits}, prefetches {prefetches}, share {share}")?;
-    if window.lookups != lookups || window.fills != fills {
+    if [window.lookups, window.fills] != due.window {
         bail!("the counts of the window are not those that are due");
     }
-    if [reads, hits, prefetches, share] != due {
+    if [reads, hits, prefetches, share] != due.cache {
         bail!("the counts of the cache are not those that are due");
     }
     Ok(())
