@@ -40,11 +40,12 @@ fn check_step<M: Memory>(
     heap: Global,
     cache: &mut Cache<M>,
     copy: &mut PlainCopy,
-    (step, after): Counted,
+    counted: Counted,
 ) -> Result<(), Fail>
     requires { ⟦<Cache<M> as Memory>⟧.coherent cache.old }
     ensures { ⟦<Cache<M> as Memory>⟧.coherent cache.new }
 {
+    let (step, after) = counted;
     let mut calls = steps_list(heap, &[step])?;
     let due = copy.due(heap, &calls)?;
     let report = play_cache(cache, &mut calls);
