@@ -1,8 +1,10 @@
 // Caches call by call: each answer, and what is counted after the call, written out.
 use crate::cached::{cache_over, counts};
+use crate::copy::PlainCopy;
 use crate::faults::spoilt_bottom;
 use crate::list::{Step, check_answers, same_records, steps_list};
 use crate::stack::{CHECKED_BYTES, Copied, bottom_of};
+use cache::Cache;
 use cache_list::play_cache;
 use checked::CheckByte;
 use expect::same;
@@ -15,7 +17,7 @@ use units::{CHECKED_LINE, LINE};
 // A call, and reads, hits, prefetches and the share after it.
 type Counted = (Step, [u64; 4]);
 
-// The steps on a cache over this memory, whose buffers are those of the copy.
+// The steps on a cache over this memory.
 fn check_steps<M: Memory + Drop>(
     heap: Global,
     below: Copied<M>,
@@ -27,14 +29,29 @@ fn check_steps<M: Memory + Drop>(
         memory: mut cache,
         mut copy,
     } = cache_over(heap, below)?;
-    for (step, after) in steps {
-        let mut calls = steps_list(heap, &[*step])?;
-        let due = copy.due(heap, &calls)?;
-        same(play_cache(&mut cache, &mut calls), counts(*after))?;
-        check_answers(&calls, &[*step])?;
-        same_records(&calls, &due)?;
+    for step in steps {
+        check_step(heap, &mut cache, &mut copy, *step)?;
     }
     Ok(())
+}
+
+// One step, whose buffer is that of the copy.
+fn check_step<M: Memory>(
+    heap: Global,
+    cache: &mut Cache<M>,
+    copy: &mut PlainCopy,
+    counted: Counted,
+) -> Result<(), Fail>
+    requires { ⟦<Cache<M> as Memory>⟧.coherent cache.old }
+    ensures { ⟦<Cache<M> as Memory>⟧.coherent cache.new }
+{
+    let (step, after) = counted;
+    let mut calls = steps_list(heap, &[step])?;
+    let due = copy.due(heap, &calls)?;
+    let report = play_cache(cache, &mut calls);
+    same(report, counts(after))?;
+    check_answers(&calls, &[step])?;
+    same_records(&calls, &due)
 }
 
 // On plain and on checked memory of so many lines.

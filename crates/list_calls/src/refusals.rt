@@ -52,6 +52,7 @@ fn refused_runs<P: Mapping, M: Memory + Drop>(
     due: SetUpRefusal,
 ) -> Result<M, Fail>
     requires { M.Memory.coherent memory }
+    ensures { IfOk result M.Memory.coherent }
 {
     let WindowRun { memory, outcome } = run_window::<P, M>(writes, memory, board, calls);
     same(outcome, Err(due))?;
