@@ -1,5 +1,5 @@
 // One window of a stack: what is written for it, and what its cells are.
-use crate::copy::{Cell, PlainCopy, passed_up};
+use crate::copy::{Cell, PlainCopy};
 use crate::placing::Placing;
 use card::RegisterWrite;
 use memory::{Cause, Fault};
@@ -135,8 +135,12 @@ impl Layer<'_> {
     }
 }
 
-// A cell of the memory below, as the window passes it up.
+// A cell of the memory below, as the window passes it up: a fault is one deeper.
 fn cell_below(below: &PlainCopy, a: u64) -> Cell {
     let cell = below.cells.get(a as usize).copied();
-    passed_up(cell.unwrap_or(Err(Fault::here(Cause::PastEnd, a))))
+    cell.unwrap_or(Err(Fault::here(Cause::PastEnd, a)))
+        .map_err(|fault| Fault {
+            depth: fault.depth.saturating_add(1),
+            ..fault
+        })
 }
