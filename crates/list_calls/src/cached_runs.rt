@@ -110,11 +110,21 @@ fn check_first<F: LineFormat>(
     };
     same(window, report)?;
     same(cache, counts(cached))?;
+    check_tops(&mut memory, case.layer.table(), tops)
+}
+
+// The first bytes of the entries, from 0 on.
+fn check_tops<M: Memory>(memory: &mut M, table: u64, tops: &[u8]) -> Result<(), Fail>
+    requires { M.Memory.coherent memory.old }
+    ensures { M.Memory.coherent memory.new }
+{
     for (number, top) in (0..).zip(tops) {
         let number: u64 = number;
-        let entry = case.layer.table().saturating_add(number.saturating_mul(4));
         let mut byte = [0];
-        same(memory.read(entry, &mut byte), Ok(()))?;
+        same(
+            memory.read(table.saturating_add(number.saturating_mul(4)), &mut byte),
+            Ok(()),
+        )?;
         same(byte, [*top])?;
     }
     Ok(())
