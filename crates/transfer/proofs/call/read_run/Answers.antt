@@ -1,65 +1,34 @@
 -- Assumes nothing.
-use Rattle.std.proofs.Common.{◌≡◌, length, Ok, Err, sym, ◌∙◌, rules}
-use Rattle.memory.specs.declared.access.Access.TheVariants.{Read}
-use Rattle.transfer.proofs.Callings.{GatheredRun, gathered_run, refused, tlb_refused, below_read_refused, accepted, tlb_accepted, below_read_accepted, buffer_after}
-use Rattle.transfer.proofs.Reading.{read_only_reached}
-use Rattle.transfer.proofs.call.read_run.Goals.{After-gather-found, In_err-count, In_ok-count}
+use Rattle.std.proofs.Common.{◌≡◌, length, Err, sym, ◌∙◌, rules}
+use Rattle.memory.specs.Reach.{reading}
+use Rattle.memory.specs.Run.{check_run}
+use Rattle.memory.proofs.Calls.{answer_outside}
+use Rattle.memory.proofs.Reaches.{reached_none}
+use Rattle.page_table.specs.Walk.{windowed}
+use Rattle.transfer.proofs.Outside.{delivered_outside, below_outside, tlb_outside}
+use Rattle.transfer.proofs.call.read_run.Goals.{In_err-check_run}
 use Rattle.transfer.proofs.call.read_run.Given.{Over}
 use Rattle.transfer.proofs.call.read_run.Goals as goal
 
-module _ (g : Over) where
-  gathered : (c : After-gather-found g) → GatheredRun (g.P.Mapping.meaning c.args.mapping.now) (g.M.Memory.meaning c.args.below.now) c.args.a.0 (length c.args.buffer.now) c.args.tlb.now
-      c.gather-found.result (g.M.Memory.meaning c.gather-found.new.below) c.gather-found.new.tlb c.gather-found.new.line c.gather-found.new.spots
-  gathered c =
-      let e = c.gather-found.ensures in
-      gathered_run c.blank_line-line.result c.requires.taken c.blank_line-line.ensures e.answer e.line e.spots e.tlb e.meaning
+bad : (g : Over) (c : In_err-check_run g) → check_run (g.P.Mapping.meaning c.args.mapping.now).image_size c.args.a.0 (length c.args.buffer.now) ≡ Err c.in_err-check_run.field-0.0
+bad g c = search rules
 
-  bad : (c : In_err-count g) → c.gather-found.result ≡ Err c.in_err-count.field-0.0
-  bad c = search rules
+pub returns-in_err-check_run-clause-answer : goal.returns-in_err-check_run-clause-answer
+returns-in_err-check_run-clause-answer g c =
+    let out : c.from_residual.result ≡ Err c.in_err-check_run.field-0.0 = search rules in
+    out ∙ sym (answer_outside (windowed (g.P.Mapping.meaning c.args.mapping.now) (g.M.Memory.meaning c.args.below.now)) _ _ _ (bad g (goal.at.returns-in_err-check_run-clause-answer g c).In_err-check_run))
 
-  good : (c : In_ok-count g) → c.gather-found.result ≡ Ok c.in_ok-count.count
-  good c = search rules
+pub returns-in_err-check_run-clause-buffer : goal.returns-in_err-check_run-clause-buffer
+returns-in_err-check_run-clause-buffer g c =
+    delivered_outside (windowed (g.P.Mapping.meaning c.args.mapping.now) (g.M.Memory.meaning c.args.below.now)) _ _ c.args.buffer.now (bad g (goal.at.returns-in_err-check_run-clause-buffer g c).In_err-check_run)
 
-pub returns-in_err-count-clause-answer : goal.returns-in_err-count-clause-answer
-returns-in_err-count-clause-answer g c =
-    let at = goal.at.returns-in_err-count-clause-answer g c in
-    let out : c.from_residual.result ≡ Err c.in_err-count.field-0.0 = search rules in
-    out ∙ sym (refused (gathered g at.After-gather-found) _ (bad g at.In_err-count))
+pub returns-in_err-check_run-clause-below : goal.returns-in_err-check_run-clause-below
+returns-in_err-check_run-clause-below g c =
+    below_outside _ _ c.args.tlb.now _ (reading c.args.a.0 c.args.buffer.now) (bad g (goal.at.returns-in_err-check_run-clause-below g c).In_err-check_run)
 
-pub returns-in_err-count-clause-buffer : goal.returns-in_err-count-clause-buffer
-returns-in_err-count-clause-buffer g c =
-    let at = goal.at.returns-in_err-count-clause-buffer g c in
-    buffer_after c.args.buffer.now (gathered g at.After-gather-found) _ c.hand_over.ensures.buffer
+pub returns-in_err-check_run-clause-tlb : goal.returns-in_err-check_run-clause-tlb
+returns-in_err-check_run-clause-tlb g c =
+    tlb_outside _ _ _ _ (reading c.args.a.0 c.args.buffer.now) (bad g (goal.at.returns-in_err-check_run-clause-tlb g c).In_err-check_run)
 
-pub returns-in_err-count-clause-below : goal.returns-in_err-count-clause-below
-returns-in_err-count-clause-below g c =
-    let at = goal.at.returns-in_err-count-clause-below g c in
-    below_read_refused (gathered g at.After-gather-found) _ (bad g at.In_err-count)
-
-pub returns-in_err-count-clause-tlb : goal.returns-in_err-count-clause-tlb
-returns-in_err-count-clause-tlb g c =
-    let at = goal.at.returns-in_err-count-clause-tlb g c in
-    tlb_refused (gathered g at.After-gather-found) Read _ (bad g at.In_err-count)
-
-pub returns-clause-answer : goal.returns-clause-answer
-returns-clause-answer g c =
-    let at = goal.at.returns-clause-answer g c in
-    sym (accepted (gathered g at.After-gather-found) _ (good g at.In_ok-count))
-
-pub returns-clause-buffer : goal.returns-clause-buffer
-returns-clause-buffer g c =
-    let at = goal.at.returns-clause-buffer g c in
-    buffer_after c.args.buffer.now (gathered g at.After-gather-found) _ c.hand_over.ensures.buffer
-
-pub returns-clause-below : goal.returns-clause-below
-returns-clause-below g c =
-    let at = goal.at.returns-clause-below g c in
-    below_read_accepted (gathered g at.After-gather-found) _ (good g at.In_ok-count) _ c.mark_pages.ensures.below
-
-pub returns-clause-tlb : goal.returns-clause-tlb
-returns-clause-tlb g c =
-    let at = goal.at.returns-clause-tlb g c in
-    tlb_accepted (gathered g at.After-gather-found) _ (good g at.In_ok-count) Read _ c.mark_pages.ensures.tlb
-
-pub returns-clause-reached : goal.returns-clause-reached
-returns-clause-reached g c = read_only_reached g.M.Memory.step c.gather-found.ensures.reads c.mark_pages.ensures.reached
+pub returns-in_err-check_run-clause-reached : goal.returns-in_err-check_run-clause-reached
+returns-in_err-check_run-clause-reached g c = reached_none g.M.Memory.step c.args.below.now
