@@ -1,32 +1,26 @@
 -- Assumes nothing.
-use Rattle.std.proofs.Common.{◌≡◌, length, is_ok, Err, refl, sym, ◌∙◌, rules}
+use Rattle.std.proofs.Common.{◌≡◌, false, is_ok, length, refl, ◌∙◌, rules}
 use Rattle.memory.specs.Reach.{reading}
-use Rattle.memory.specs.Run.{check_run}
-use Rattle.memory.proofs.Calls.{answer_outside}
 use Rattle.memory.proofs.Reaches.{reached_none}
-use Rattle.page_table.specs.Walk.{shown}
-use Rattle.window.proofs.Shown.{called, not_taken, delivered_outside}
-use Rattle.window.proofs.window.WindowMemory.read.Goals.{In_err-check_run}
+use Rattle.window.proofs.Shown.{called, shut_answer, shut_delivered, shut_called}
+use Rattle.window.proofs.window.WindowMemory.read.Goals.{Then-is_err}
 use Rattle.window.proofs.window.WindowMemory.read.Given.{Over}
 use Rattle.window.proofs.window.WindowMemory.read.Goals as goal
 
-bad : (g : Over) (c : In_err-check_run g)
-    → check_run (shown (is_ok c.args.self.now.opening) (g.P.Mapping.meaning c.args.self.now.mapping) (g.M.Memory.meaning c.args.self.now.below)).size c.args.a (length c.args.buffer.now) ≡ Err c.in_err-check_run.field-0.0
-bad g c = search rules
+is_shut : (g : Over) (c : Then-is_err g) → is_ok c.args.self.now.opening ≡ false
+is_shut g c = search rules
 
-pub returns-in_err-check_run-clause-answer : goal.returns-in_err-check_run-clause-answer
-returns-in_err-check_run-clause-answer g c =
-    let out : c.from_residual.result ≡ Err c.in_err-check_run.field-0.0 = search rules in
-    out ∙ sym (answer_outside _ _ _ _ (bad g (goal.at.returns-in_err-check_run-clause-answer g c).In_err-check_run))
+pub returns-then-is_err-clause-answer : goal.returns-then-is_err-clause-answer
+returns-then-is_err-clause-answer g c =
+    c.check_run.ensures ∙ shut_answer _ _ _ (is_ok c.args.self.now.opening) (is_shut g (goal.at.returns-then-is_err-clause-answer g c).Then-is_err) (length c.args.buffer.now)
 
-pub returns-in_err-check_run-clause-buffer : goal.returns-in_err-check_run-clause-buffer
-returns-in_err-check_run-clause-buffer g c =
-    delivered_outside _ _ _ c.args.buffer.now (bad g (goal.at.returns-in_err-check_run-clause-buffer g c).In_err-check_run)
+pub returns-then-is_err-clause-buffer : goal.returns-then-is_err-clause-buffer
+returns-then-is_err-clause-buffer g c =
+    shut_delivered _ _ _ (is_ok c.args.self.now.opening) (is_shut g (goal.at.returns-then-is_err-clause-buffer g c).Then-is_err) c.args.buffer.now
 
-pub returns-in_err-check_run-clause-step : goal.returns-in_err-check_run-clause-step
-returns-in_err-check_run-clause-step g c =
-    not_taken (refl, refl) (reached_none g.M.Memory.step c.args.self.now.below) (is_ok c.args.self.now.opening) _ _ _ (reading c.args.a c.args.buffer.now) _ c.requires.ready
-    (bad g (goal.at.returns-in_err-check_run-clause-step g c).In_err-check_run)
+pub returns-then-is_err-clause-step : goal.returns-then-is_err-clause-step
+returns-then-is_err-clause-step g c =
+    shut_called (refl, refl) (reached_none g.M.Memory.step c.args.self.now.below) (is_ok c.args.self.now.opening) (is_shut g (goal.at.returns-then-is_err-clause-step g c).Then-is_err) _ _ _ (reading c.args.a c.args.buffer.now)
 
 pub returns-clause-step : goal.returns-clause-step
 returns-clause-step g c =
