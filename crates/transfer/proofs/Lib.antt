@@ -11,3 +11,4 @@ pub mod Reading
 pub mod Touching
 pub mod Effects
 pub mod Counting
+pub mod Wholes

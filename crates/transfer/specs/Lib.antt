@@ -3,3 +3,4 @@ pub mod Lookups
 pub mod Scatter
 pub mod Call
 pub mod Effect
+pub mod Wholes

@@ -1,8 +1,9 @@
-use Rattle.std.proofs.Common.{◌≡◌, ◌-◌, length}
+use Rattle.std.proofs.Common.{◌≡◌, ◌+◌, ◌-◌, length}
 use Rattle.memory.specs.Reach.{OnlyRead}
 use Rattle.page_table.specs.Ready.{Ready}
+use Rattle.transfer.specs.Wholes.{Whole}
 use Rattle.transfer.proofs.Gathering.{Gathered}
-use Rattle.transfer.proofs.gather.gather.Given as goal
+use Rattle.transfer.proofs.gather.gather_by.Given as goal
 
 -- The bytes that are left.
 abbrev pub decreases-loop-done : goal.decreases-loop-done
@@ -19,3 +20,4 @@ invariant-loop-done g l =
     × m.coherent l.below
     × OnlyRead m.step l.fn.below l.below
     × Ready layout b l.tlb
+    × Whole l.whole l.grain (l.fn.a.0 + l.done) (length l.fn.line - l.done)
