@@ -12,3 +12,4 @@ pub mod Touching
 pub mod Effects
 pub mod Counting
 pub mod Wholes
+pub mod Following

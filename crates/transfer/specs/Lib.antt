@@ -4,3 +4,4 @@ pub mod Scatter
 pub mod Call
 pub mod Effect
 pub mod Wholes
+pub mod Follows

@@ -1,5 +1,5 @@
 // Gathering: the bytes of a run, part by part, and where each part stands.
-ghost use Rattle.std.specs.Prelude.{◌≡◌, ◌+◌, ◌-◌, ◌*◌, ◌%◌, ◌<◌, ◌≤◌, min, cond, is_ok, length, map, take, Ok, IfOk};
+ghost use Rattle.std.specs.Prelude.{◌≡◌, ◌+◌, ◌-◌, ◌*◌, ◌%◌, ◌<◌, ◌≤◌, min, cond, is_ok, length, map, take, Ok, IfOk, IfSome};
 ghost use Rattle.std.specs.Result.{result_map_both};
 ghost use Rattle.memory.specs.Calls.{first_fault, bytes, read_answer, delivered};
 ghost use Rattle.memory.specs.Fault.{from_below};
@@ -9,13 +9,15 @@ ghost use Rattle.page_table.specs.Ready.{Ready};
 ghost use Rattle.walk.specs.Lookup.{looked_at, page_at};
 ghost use Rattle.transfer.specs.Parts.{Part, Spotted};
 ghost use Rattle.transfer.specs.Wholes.{Whole};
+ghost use Rattle.transfer.specs.Follows.{Follows};
 ghost use Rattle.transfer.specs.Lookups.{lookups_of};
 ghost use Rattle.transfer.specs.Scatter.{LivePages};
 ghost use Rattle.page_table.specs.Table.{table_of};
 
-use mapping::{Mapping, MemoryAddress, WindowAddress};
+use mapping::{Mapping, MemoryAddress, PseudoVirtualAddress, WindowAddress};
 use memory::{Fault, Memory, from_below};
-use page_table::Tlb;
+use page_table::{Entry, Tlb};
+use units::PAGE;
 use walk::{Spot, walk};
 
 // The most parts that a run has: a grain has 4 bytes at least, and a run lies in one line.
@@ -107,20 +109,49 @@ fn gather_by<P: Mapping, M: Memory>(
     let mut count = 0;
     let mut done = 0;
     while done < line.len() {
-        let s = a.0 + done as u64;
-        let step = step_size(s, grain, line.len() - done, whole);
-        let spot = gather_part(
-            mapping,
-            below,
-            tlb,
-            WindowAddress(s),
-            &mut line[done..done + step],
-        )?;
-        spots[count] = spot;
+        let s = WindowAddress(a.0 + done as u64);
+        let step = step_size(s.0, grain, line.len() - done, whole);
+        let part = &mut line[done..done + step];
+        let first = gather_part(mapping, below, tlb, s, part)?;
+        spots[count] = first;
         count += 1;
         done += step;
+        // The parts that follow in the same page go by its entry, as it is held.
+        let held = tlb.get(first.page);
+        while done < line.len() {
+            let s = WindowAddress(a.0 + done as u64);
+            let Some(next) = follow(mapping, s, first.page, held) else {
+                break;
+            };
+            let step = step_size(s.0, grain, line.len() - done, whole);
+            tlb.count(false);
+            read_below(below, next.address, &mut line[done..done + step])?;
+            spots[count] = next;
+            count += 1;
+            done += step;
+        }
     }
     Ok(count)
+}
+
+// Where a byte stands, if it lies in this page, and the entry of the page is held.
+#[inline(always)]
+fn follow<P: Mapping>(
+    mapping: &P,
+    s: WindowAddress,
+    page: u32,
+    held: Option<Entry>,
+) -> Option<Spot>
+    requires { P.Mapping.armed mapping.now }
+    ensures { IfSome result (Follows (P.Mapping.meaning mapping.now) s.0 page held) }
+{
+    let entry = held?;
+    let PseudoVirtualAddress(v) = mapping.place(s)?;
+    if v / PAGE != u64::from(page) {
+        return None;
+    }
+    let address = MemoryAddress(u64::from(entry.frame) * PAGE + v % PAGE);
+    Some(Spot { page, address })
 }
 
 // How many of n bytes from s on lie in the grain of s, which are all of it in a run of whole grains.
