@@ -171,7 +171,7 @@ pub(crate) fn step_size(s: u64, grain: u64, n: usize, whole: bool) -> usize
 }
 
 // How many of n bytes from s on lie in the grain of s.
-pub(crate) fn part_size(s: u64, grain: u64, n: usize) -> usize
+fn part_size(s: u64, grain: u64, n: usize) -> usize
     requires { (0 < grain) × (grain ≤ 128) }
     ensures { result ≡ min (grain - s % grain) n }
 {
