@@ -12,10 +12,10 @@ use Rattle.mapping.specs.Rules.{Layout}
 use Rattle.page_table.specs.declared.entry.Entry.{Entry}
 use Rattle.page_table.specs.declared.tlb.Tlb.{Tlb}
 use Rattle.page_table.specs.Table.{table_of, entry_address, entry_read}
-use Rattle.page_table.specs.Tlb.{held_entry, counted, Steady}
+use Rattle.page_table.specs.Tlb.{held_entry, counted, counted_hits, Steady}
 use Rattle.page_table.specs.Walk.{through, walked_from, walked, viewed}
 use Rattle.page_table.specs.Ready.{Ready, Holds}
-use Rattle.page_table.proofs.Tlbs.{held_counted, holds_counted}
+use Rattle.page_table.proofs.Tlbs.{held_counted, holds_counted, no_hit}
 use Rattle.walk.specs.declared.spot.Spot.{Spot}
 use Rattle.walk.specs.Lookup.{looked, looked_from, looked_at, page_of, page_at}
 use Rattle.walk.proofs.Lookups.{looked_held}
@@ -104,3 +104,7 @@ ready_counted {l} {m} {h} ready new counts steady = record {
 
 pub held_still : (h : Tlb) (k : ℕ) (held : Option Entry) → held ≡ held_entry h k → (new : Tlb) → new ≡ counted h false → held ≡ held_entry new k
 held_still h k held is new counts = is ∙ sym (held_counted h false k) ∙ ap (λ t. held_entry t k) (sym counts)
+
+pub gathered_no_hit : {l : Layout} {m : Meaning} {before : Tlb} {a n done : ℕ} {h : Tlb} {line : List ℕ} {count : ℕ} {spots : List Spot}
+    → Gathered l m before a n done h line count spots → Gathered l m before a n done (counted_hits h 0) line count spots
+gathered_no_hit {l} {m} {before} {a} {n} {done} {h} {line} {count} {spots} x = subst (λ t. Gathered l m before a n done t line count spots) (sym (no_hit h)) x

@@ -116,32 +116,32 @@ fn gather_by<P: Mapping, M: Memory>(
         spots[count] = first;
         count += 1;
         done += step;
-        // The parts that follow in the same page go by its entry, as it is held.
+        // The parts that follow in the same page go by its entry, as it is held, and are counted at once.
         let held = tlb.get(first.page);
+        let mut hits = 0;
         while done < line.len() {
             let s = WindowAddress(a.0 + done as u64);
             let Some(next) = follow(mapping, s, first.page, held) else {
                 break;
             };
             let step = step_size(s.0, grain, line.len() - done, whole);
-            tlb.count(false);
-            read_below(below, next.address, &mut line[done..done + step])?;
+            hits += 1;
+            if let Err(fault) = read_below(below, next.address, &mut line[done..done + step]) {
+                tlb.count_hits(hits);
+                return Err(fault);
+            }
             spots[count] = next;
             count += 1;
             done += step;
         }
+        tlb.count_hits(hits);
     }
     Ok(count)
 }
 
 // Where a byte stands, if it lies in this page, and the entry of the page is held.
 #[inline(always)]
-fn follow<P: Mapping>(
-    mapping: &P,
-    s: WindowAddress,
-    page: u32,
-    held: Option<Entry>,
-) -> Option<Spot>
+fn follow<P: Mapping>(mapping: &P, s: WindowAddress, page: u32, held: Option<Entry>) -> Option<Spot>
     requires { P.Mapping.armed mapping.now }
     ensures { IfSome result (Follows (P.Mapping.meaning mapping.now) s.0 page held) }
 {

@@ -1,7 +1,7 @@
 use Rattle.std.proofs.Common.{◌≡◌, ◌+◌, ◌-◌, ◌≤◌, length}
 use Rattle.memory.specs.Reach.{OnlyRead}
 use Rattle.page_table.specs.Ready.{Ready}
-use Rattle.page_table.specs.Tlb.{held_entry}
+use Rattle.page_table.specs.Tlb.{held_entry, counted_hits, Steady}
 use Rattle.transfer.specs.Wholes.{Whole}
 use Rattle.transfer.proofs.Gathering.{Gathered}
 use Rattle.transfer.proofs.gather.gather_by.Given as goal
@@ -26,17 +26,20 @@ invariant-loop-done g l =
 abbrev pub decreases-loop-done-2 : goal.decreases-loop-done-2
 decreases-loop-done-2 g l = length l.line - l.done
 
--- The same of the parts that follow in one page, for which the entry is held that was held at the first of them.
+-- The same of the parts that follow in one page, for which the entry is held that was held at the first of them, with the hits
+-- that are not counted yet.
 abbrev pub invariant-loop-done-2 : goal.invariant-loop-done-2
 invariant-loop-done-2 g l =
     let m = g.M.Memory in
     let layout = g.P.Mapping.meaning l.fn.mapping in
     let b = m.meaning l.fn.below in
-    Gathered layout b l.fn.tlb l.fn.a.0 (length l.fn.line) l.done l.tlb l.line l.count l.spots
+    Gathered layout b l.fn.tlb l.fn.a.0 (length l.fn.line) l.done (counted_hits l.tlb l.hits) l.line l.count l.spots
     × (m.meaning l.below ≡ b)
     × m.coherent l.below
     × OnlyRead m.step l.fn.below l.below
-    × Ready layout b l.tlb
+    × Ready layout b (counted_hits l.tlb l.hits)
     × Whole l.whole l.grain (l.fn.a.0 + l.done) (length l.fn.line - l.done)
-    × (l.held ≡ held_entry l.tlb l.first.page)
+    × (l.held ≡ held_entry (counted_hits l.tlb l.hits) l.first.page)
     × (l.initial.done ≤ l.done)
+    × (l.hits ≤ l.count)
+    × Steady l.tlb
