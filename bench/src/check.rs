@@ -16,11 +16,7 @@ pub fn answers() {
         reads("checked memory", Scene::checked(FEW, order), contenders::checked);
         reads("a window over a cache", plain(), contenders::over_cache);
         reads("a cache over a window", plain(), contenders::cached);
-        reads(
-            "a window over a window",
-            Scene::two_windows(FEW, order),
-            contenders::over_window,
-        );
+        reads("a window over a window", Scene::two_windows(FEW, order), contenders::over_window);
         same("reads", order, contenders::stride, contenders::simple_read);
         same("writes", order, contenders::stride_write, contenders::simple_write);
         whole(order);
@@ -32,11 +28,7 @@ pub fn answers() {
 fn reads(name: &str, mut scene: Scene, call: Call) {
     for lines in 1..=LINES {
         assert!(call(&mut scene, lines), "{name} refuses a line");
-        assert!(
-            scene.line == prices(lines as usize - 1),
-            "{name} brings other bytes in line {}",
-            lines - 1
-        );
+        assert!(scene.line == prices(lines as usize - 1), "{name} brings other bytes in line {}", lines - 1);
     }
 }
 
@@ -47,10 +39,7 @@ fn same(name: &str, order: Order, one: Call, other: Call) {
         scene.line = prices(7);
         assert!(call(scene, LINES), "{name}: a line was refused");
     }
-    assert!(
-        scenes[0].bytes == scenes[1].bytes,
-        "the {name} of the two windows leave different memories"
-    );
+    assert!(scenes[0].bytes == scenes[1].bytes, "the {name} of the two windows leave different memories");
 }
 
 /// Direct and colour, with a colour as large as its way, show the records as they are.
@@ -58,10 +47,9 @@ fn whole(order: Order) {
     let image = FEW * RECORD;
     let direct = Scene::other(FEW, order, image, [0; 3]);
     let colour = Scene::other(FEW, order, image, [16_384, 16_384, 0]);
-    for (name, mut scene, call) in [
-        ("direct", direct, contenders::direct as Call),
-        ("colour", colour, contenders::colour),
-    ] {
+    for (name, mut scene, call) in
+        [("direct", direct, contenders::direct as Call), ("colour", colour, contenders::colour)]
+    {
         for record in 0..FEW {
             assert!(call(&mut scene, record as u32 + 1), "{name} refuses a line");
             let found = &scene.line[8..8 + PRICE];
@@ -75,9 +63,6 @@ fn transposed(order: Order) {
     let mut scene = Scene::other(FEW, order, FEW * RECORD, [PRICE, RECORD, FEW]);
     for lines in 2 * LINES + 1..=3 * LINES {
         assert!(contenders::transpose(&mut scene, lines), "transpose refuses a line");
-        assert!(
-            scene.line == prices((lines - 2 * LINES) as usize - 1),
-            "transpose brings other bytes"
-        );
+        assert!(scene.line == prices((lines - 2 * LINES) as usize - 1), "transpose brings other bytes");
     }
 }

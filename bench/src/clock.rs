@@ -15,10 +15,7 @@ unsafe extern "C" {
 }
 
 pub fn thread_time() -> Duration {
-    let mut time = Timespec {
-        seconds: 0,
-        nanoseconds: 0,
-    };
+    let mut time = Timespec { seconds: 0, nanoseconds: 0 };
     // SAFETY: it writes one Timespec, and keeps no pointer.
     let answer = unsafe { clock_gettime(CLOCK_THREAD_CPUTIME_ID, &mut time) };
     assert_eq!(answer, 0, "no clock of the thread's processor time");

@@ -49,24 +49,14 @@ pub fn sizes() -> Vec<Size> {
             let lines = (records / PAGE_RECORDS) as u32;
             let calls = SIZE_CALLS.map(|(name, call)| contender(name, 0, call, lines));
             let figures = measure(&mut [Scene::stride(records, order)], &calls, REPETITIONS);
-            sizes.push(Size {
-                records,
-                order,
-                figures,
-            });
+            sizes.push(Size { records, order, figures });
         }
     }
     sizes
 }
 
 fn contender(name: &'static str, scene: usize, call: Call, lines: u32) -> Contender {
-    Contender {
-        name,
-        scene,
-        call,
-        lines,
-        rounds: REPETITION_LINES.div_ceil(lines),
-    }
+    Contender { name, scene, call, lines, rounds: REPETITION_LINES.div_ceil(lines) }
 }
 
 /// Each mapping and each sort of stack once, over the records of the smallest image.
@@ -84,66 +74,26 @@ pub fn layers() -> Layers {
     let data = FEW * RECORD;
     let dense = (FEW / PAGE_RECORDS) as u32;
     let all = (data / LINE) as u32;
-    let parts: [(&str, Scene, Call, u32); 8] = [
-        (
-            "stride over plain memory",
-            Scene::stride(FEW, order),
-            contenders::stride,
-            dense,
-        ),
-        (
-            "stride over checked memory",
-            Scene::checked(FEW, order),
-            contenders::checked,
-            dense,
-        ),
-        (
-            "direct over plain memory",
-            Scene::other(FEW, order, data, [0; 3]),
-            contenders::direct,
-            all,
-        ),
-        (
-            "colour over plain memory",
-            Scene::other(FEW, order, data, [16_384, 16_384, 0]),
-            contenders::colour,
-            all,
-        ),
-        (
-            "transpose over plain memory",
-            Scene::other(FEW, order, data, [PRICE, RECORD, FEW]),
-            contenders::transpose,
-            dense,
-        ),
-        (
-            "stride over a cache over plain memory",
-            Scene::stride(FEW, order),
-            contenders::over_cache,
-            dense,
-        ),
-        (
-            "a cache over stride over plain memory",
-            Scene::stride(FEW, order),
-            contenders::cached,
-            dense,
-        ),
-        (
-            "stride over direct over plain memory",
-            Scene::two_windows(FEW, order),
-            contenders::over_window,
-            dense,
-        ),
+    let stride = || Scene::stride(FEW, order);
+    let other = |registers| Scene::other(FEW, order, data, registers);
+    let stacks: [(&str, Scene, Call, u32); 8] = [
+        ("stride over plain memory", stride(), contenders::stride, dense),
+        ("stride over checked memory", Scene::checked(FEW, order), contenders::checked, dense),
+        ("direct over plain memory", other([0; 3]), contenders::direct, all),
+        ("colour over plain memory", other([16_384, 16_384, 0]), contenders::colour, all),
+        ("transpose over plain memory", other([PRICE, RECORD, FEW]), contenders::transpose, dense),
+        ("stride over a cache over plain memory", stride(), contenders::over_cache, dense),
+        ("a cache over stride over plain memory", stride(), contenders::cached, dense),
+        ("stride over direct over plain memory", Scene::two_windows(FEW, order), contenders::over_window, dense),
     ];
-    let names = parts.iter().map(|part| part.0).collect();
-    let calls: Vec<Contender> = (0..)
-        .zip(&parts)
-        .map(|(scene, (name, _, call, lines))| contender(name, scene, *call, *lines))
-        .collect();
-    let mut scenes: Vec<Scene> = parts.into_iter().map(|part| part.1).collect();
-    Layers {
-        names,
-        figures: measure(&mut scenes, &calls, REPETITIONS),
+    let mut layers = Vec::new();
+    let mut scenes = Vec::new();
+    for (place, (name, scene, call, lines)) in stacks.into_iter().enumerate() {
+        layers.push(contender(name, place, call, lines));
+        scenes.push(scene);
     }
+    let figures = measure(&mut scenes, &layers, REPETITIONS);
+    Layers { names: layers.iter().map(|layer| layer.name).collect(), figures }
 }
 
 /// Openings of stride windows, by the number of entries in the table.
@@ -162,10 +112,7 @@ pub fn openings() -> Openings {
         lines: 0,
         rounds: (65_536 / entries[scene]) as u32,
     });
-    Openings {
-        entries,
-        figures: measure(&mut scenes, &calls, REPETITIONS),
-    }
+    Openings { entries, figures: measure(&mut scenes, &calls, REPETITIONS) }
 }
 
 /// What `once` may call, and for how many lines at most.

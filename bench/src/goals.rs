@@ -23,12 +23,7 @@ pub fn print(sizes: &[Size], layers: &Layers, openings: &Openings) {
     for goal in &goals {
         let verdict = if goal.is_met() { "met" } else { "missed" };
         let found: Vec<String> = goal.found.iter().map(|found| format!("{found:.2}")).collect();
-        println!(
-            "- {verdict}: {}, at most {}: {}",
-            goal.what,
-            goal.most,
-            found.join(" and ")
-        );
+        println!("- {verdict}: {}, at most {}: {}", goal.what, goal.most, found.join(" and "));
     }
     let met = goals.iter().filter(|goal| goal.is_met()).count();
     println!("\n{met} of {} goals met", goals.len());
@@ -38,32 +33,12 @@ fn goals(sizes: &[Size], layers: &Layers, openings: &Openings) -> Vec<Goal> {
     let to = |records, this, that| ratios(sizes, records, this, that);
     let goal = |what, found, most| Goal { what, found, most };
     vec![
-        goal(
-            "a read in cache, to the simple window's",
-            to(FEW, READ, SIMPLE_READ),
-            0.4,
-        ),
+        goal("a read in cache, to the simple window's", to(FEW, READ, SIMPLE_READ), 0.4),
         goal("a read in cache, to the strided copy's", to(FEW, READ, GATHER), 4.0),
-        goal(
-            "a read at 2,097,152 records, to the simple window's",
-            to(MANY, READ, SIMPLE_READ),
-            0.9,
-        ),
-        goal(
-            "a read at 2,097,152 records, to the strided copy's",
-            to(MANY, READ, GATHER),
-            1.4,
-        ),
-        goal(
-            "a write in cache, to the simple window's",
-            to(FEW, WRITE, SIMPLE_WRITE),
-            0.6,
-        ),
-        goal(
-            "a read over checked memory, to one over plain memory",
-            vec![layers.figures.ratio(CHECKED, PLAIN)],
-            3.0,
-        ),
+        goal("a read at 2,097,152 records, to the simple window's", to(MANY, READ, SIMPLE_READ), 0.9),
+        goal("a read at 2,097,152 records, to the strided copy's", to(MANY, READ, GATHER), 1.4),
+        goal("a write in cache, to the simple window's", to(FEW, WRITE, SIMPLE_WRITE), 0.6),
+        goal("a read over checked memory, to one over plain memory", vec![layers.figures.ratio(CHECKED, PLAIN)], 3.0),
         goal(
             "growth of a read from 4,096 to 2,097,152 records, to the strided copy's",
             growth(sizes, READ, GATHER),
@@ -74,11 +49,7 @@ fn goals(sizes: &[Size], layers: &Layers, openings: &Openings) -> Vec<Goal> {
             growth(sizes, WRITE, SCATTER),
             1.0,
         ),
-        goal(
-            "an entry of an opening of 65,536 entries, to one of 256",
-            vec![for_an_entry(openings)],
-            1.5,
-        ),
+        goal("an entry of an opening of 65,536 entries, to one of 256", vec![for_an_entry(openings)], 1.5),
     ]
 }
 

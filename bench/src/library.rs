@@ -61,15 +61,7 @@ pub fn read(stack: Stack, bytes: &mut [u8], opening: &mut Opening, lines: u32, l
     let board = &mut opening.board;
     // SAFETY: both slices are borrowed for the call, which keeps no pointer.
     unsafe {
-        stack.call()(
-            bytes.as_mut_ptr(),
-            bytes.len(),
-            board.as_mut_ptr(),
-            board.len(),
-            &opening.registers,
-            lines,
-            line,
-        )
+        stack.call()(bytes.as_mut_ptr(), bytes.len(), board.as_mut_ptr(), board.len(), &opening.registers, lines, line)
     }
 }
 

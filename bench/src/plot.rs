@@ -23,21 +23,9 @@ struct Curve {
 }
 
 const CURVES: [Curve; 3] = [
-    Curve {
-        name: "window",
-        colour: "#0b6e4f",
-        contender: READ,
-    },
-    Curve {
-        name: "simple window",
-        colour: "#c2410c",
-        contender: SIMPLE_READ,
-    },
-    Curve {
-        name: "strided copy",
-        colour: "#475569",
-        contender: GATHER,
-    },
+    Curve { name: "window", colour: "#0b6e4f", contender: READ },
+    Curve { name: "simple window", colour: "#c2410c", contender: SIMPLE_READ },
+    Curve { name: "strided copy", colour: "#475569", contender: GATHER },
 ];
 
 /// Where a number of records and a time stand.
@@ -50,9 +38,7 @@ struct Scale {
 impl Scale {
     fn of(sizes: &[Size]) -> Scale {
         let records = || sizes.iter().map(|size| (size.records as f64).log2());
-        let times = sizes
-            .iter()
-            .flat_map(|size| CURVES.map(|curve| size.figures.median(curve.contender)));
+        let times = sizes.iter().flat_map(|size| CURVES.map(|curve| size.figures.median(curve.contender)));
         Scale {
             least: records().fold(f64::INFINITY, f64::min),
             most: records().fold(0.0, f64::max),
@@ -98,20 +84,13 @@ fn axes(sizes: &[Size], scale: &Scale) -> Vec<String> {
     while time <= scale.top {
         let y = scale.y(time);
         lines.push(format!(r##"<path d="M{LEFT} {y:.1}H{right}" stroke="#d4d4d8"/>"##));
-        lines.push(format!(
-            r#"<text x="{:.1}" y="{:.1}" text-anchor="end">{time}</text>"#,
-            LEFT - 8.0,
-            y + 4.0
-        ));
+        lines.push(format!(r#"<text x="{:.1}" y="{:.1}" text-anchor="end">{time}</text>"#, LEFT - 8.0, y + 4.0));
         time += STEP;
     }
     for size in sizes.iter().filter(|size| size.order == Order::InOrder) {
         let x = scale.x(size.records);
         let name = grouped(size.records);
-        lines.push(format!(
-            r#"<text x="{x:.1}" y="{:.1}" text-anchor="middle">{name}</text>"#,
-            foot + 20.0
-        ));
+        lines.push(format!(r#"<text x="{x:.1}" y="{:.1}" text-anchor="middle">{name}</text>"#, foot + 20.0));
     }
     lines
 }
@@ -123,11 +102,7 @@ fn polyline(sizes: &[Size], scale: &Scale, curve: &Curve, order: Order) -> Strin
         // Writing to a text does not fail.
         let _ = write!(points, "{:.1},{:.1} ", scale.x(size.records), scale.y(time));
     }
-    let dashes = if order == Order::Shuffled {
-        r#" stroke-dasharray="6 4""#
-    } else {
-        ""
-    };
+    let dashes = if order == Order::Shuffled { r#" stroke-dasharray="6 4""# } else { "" };
     format!(
         r#"<polyline points="{}" fill="none" stroke="{}" stroke-width="2"{dashes}/>"#,
         points.trim_end(),

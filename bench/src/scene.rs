@@ -69,11 +69,7 @@ impl Scene {
         scene.bytes = scene
             .bytes
             .chunks_exact(LINE)
-            .flat_map(|line| {
-                line.iter()
-                    .copied()
-                    .chain([line.iter().fold(0, |all, byte| all ^ byte)])
-            })
+            .flat_map(|line| line.iter().copied().chain([line.iter().fold(0, |all, byte| all ^ byte)]))
             .collect();
         scene
     }
@@ -89,25 +85,12 @@ impl Scene {
         }
         put_table(&mut bytes, pages, &frames);
         let lower = Scene::over(bytes, frames, [pages * PAGE, pages, 0, 0, 0]);
-        Scene {
-            opening: upper.opening,
-            lower: Some(lower.opening),
-            ..lower
-        }
+        Scene { opening: upper.opening, lower: Some(lower.opening), ..lower }
     }
 
     fn over(bytes: Vec<u8>, frames: Vec<u32>, values: [usize; 5]) -> Scene {
         let board = vec![0; bytes.len() / PAGE];
-        Scene {
-            bytes,
-            opening: Opening {
-                board,
-                registers: registers(values),
-            },
-            lower: None,
-            frames,
-            line: [0; LINE],
-        }
+        Scene { bytes, opening: Opening { board, registers: registers(values) }, lower: None, frames, line: [0; LINE] }
     }
 }
 

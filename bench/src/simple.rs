@@ -1,4 +1,4 @@
-//! A stride window over plain memory in safe Rust, as one writes it first, by the rules of docs/windows.md: the mapping, the page
+//! A stride window over plain memory in safe Rust, by the rules of docs/windows.md: the mapping, the page
 //! table, a TLB of 32 places, marks, each call whole or not at all. It makes no examination when it is opened.
 
 use crate::library::Registers;
@@ -40,6 +40,8 @@ pub struct SimpleWindow<'a> {
     image_size: u64,
     table: u64,
     object_size: u64,
+    /// an object's size is a power of two, so its number takes no division
+    object_shift: u32,
     stride: u64,
     offset: u64,
     tlb: [Option<Translation>; PLACES],
@@ -55,6 +57,7 @@ impl<'a> SimpleWindow<'a> {
             image_size,
             table: table_page * PAGE,
             object_size,
+            object_shift: object_size.trailing_zeros(),
             stride,
             offset,
             tlb: [None; PLACES],
@@ -64,57 +67,67 @@ impl<'a> SimpleWindow<'a> {
     }
 
     pub fn read(&mut self, a: u64, buffer: &mut [u8]) -> Result<(), Fault> {
+        let n = buffer.len();
+        self.check_run(a, n)?;
         let mut line = [0; LINE as usize];
         let mut parts = [Part::default(); PLACES];
-        let count = self.find(a, buffer.len(), &mut parts)?;
+        let mut count = 0;
         let mut done = 0;
-        for part in &parts[..count] {
+        while done < n {
+            let part = self.find(a + done as u64, n - done)?;
             line[done..done + part.size].copy_from_slice(&self.memory[part.address..part.address + part.size]);
+            parts[count] = part;
+            count += 1;
             done += part.size;
         }
         self.mark(&parts[..count], REFERENCED);
-        buffer.copy_from_slice(&line[..done]);
+        buffer.copy_from_slice(&line[..n]);
         Ok(())
     }
 
     pub fn write(&mut self, a: u64, bytes: &[u8]) -> Result<(), Fault> {
+        let n = bytes.len();
+        self.check_run(a, n)?;
         let mut parts = [Part::default(); PLACES];
-        let count = self.find(a, bytes.len(), &mut parts)?;
-        self.mark(&parts[..count], REFERENCED | MODIFIED);
+        let mut count = 0;
         let mut done = 0;
-        for part in &parts[..count] {
-            self.memory[part.address..part.address + part.size].copy_from_slice(&bytes[done..done + part.size]);
+        while done < n {
+            let part = self.find(a + done as u64, n - done)?;
+            parts[count] = part;
+            count += 1;
             done += part.size;
+        }
+        self.mark(&parts[..count], REFERENCED | MODIFIED);
+        let mut rest = bytes;
+        for part in &parts[..count] {
+            let (these, others) = rest.split_at(part.size);
+            self.memory[part.address..part.address + part.size].copy_from_slice(these);
+            rest = others;
         }
         Ok(())
     }
 
-    /// Where the parts of a run stand, and how many there are.
-    fn find(&mut self, a: u64, n: usize, parts: &mut [Part; PLACES]) -> Result<usize, Fault> {
+    fn check_run(&self, a: u64, n: usize) -> Result<(), Fault> {
         if n == 0 || n as u64 > LINE - a % LINE {
             return Err(Fault::BadRun);
         }
         if n as u64 > self.image_size.saturating_sub(a) {
             return Err(Fault::PastEnd);
         }
-        let mut count = 0;
-        let mut done = 0;
-        while done < n {
-            let s = a + done as u64;
-            let size = ((self.object_size - s % self.object_size) as usize).min(n - done);
-            let v = s / self.object_size * self.stride + self.offset + s % self.object_size;
-            let page = v / PAGE;
-            let frame = self.look_up(page)?;
-            let address = u64::from(frame) * PAGE + v % PAGE;
-            let address = address as usize;
-            if address + size > self.memory.len() {
-                return Err(Fault::PastEnd);
-            }
-            parts[count] = Part { page, address, size };
-            count += 1;
-            done += size;
+        Ok(())
+    }
+
+    /// Where the bytes from s on stand that lie in its grain, up to n of them.
+    fn find(&mut self, s: u64, n: usize) -> Result<Part, Fault> {
+        let rest = s & (self.object_size - 1);
+        let size = ((self.object_size - rest) as usize).min(n);
+        let v = (s >> self.object_shift) * self.stride + self.offset + rest;
+        let page = v / PAGE;
+        let address = (u64::from(self.look_up(page)?) * PAGE + v % PAGE) as usize;
+        if address + size > self.memory.len() {
+            return Err(Fault::PastEnd);
         }
-        Ok(count)
+        Ok(Part { page, address, size })
     }
 
     fn look_up(&mut self, page: u64) -> Result<u32, Fault> {

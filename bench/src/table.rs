@@ -21,11 +21,7 @@ pub fn sizes(sizes: &[Size]) {
 }
 
 fn size_row(size: &Size, window: usize, simple: usize, strided: usize) {
-    let Size {
-        records,
-        order,
-        figures,
-    } = size;
+    let Size { records, order, figures } = size;
     println!(
         "| {} | {} | {:.1} | {:.1} | {:.1} | {:.1} | {:.2} | {:.2} |",
         grouped(*records),
@@ -45,11 +41,7 @@ pub fn layers(layers: &Layers) {
     println!("|---|---|---|");
     for (place, name) in layers.names.iter().enumerate() {
         let figures = &layers.figures;
-        println!(
-            "| {name} | {:.1} | {:.2} |",
-            figures.median(place),
-            figures.ratio(place, PLAIN)
-        );
+        println!("| {name} | {:.1} | {:.2} |", figures.median(place), figures.ratio(place, PLAIN));
     }
     println!();
 }
@@ -60,12 +52,7 @@ pub fn openings(openings: &Openings) {
     println!("|---|---|---|");
     for (place, &entries) in openings.entries.iter().enumerate() {
         let time = openings.figures.median(place);
-        println!(
-            "| {} | {:.1} | {:.2} |",
-            grouped(entries),
-            time / 1000.0,
-            time / entries as f64
-        );
+        println!("| {} | {:.1} | {:.2} |", grouped(entries), time / 1000.0, time / entries as f64);
     }
     println!();
 }
