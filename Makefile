@@ -1,9 +1,15 @@
 # make run: prove, build and run the program on its sample input.
 # make test: the gate. Its last line is 'N passed, 0 failed'.
-.PHONY: run test
+# make bench: what a line through a window costs, beside plain Rust; docs/performance.md has the figures.
+.PHONY: run test bench
 
 run:
 	cd crates/invoice && rt run < stdin
 
 test:
 	.ci/run
+
+bench:
+	@command -v cargo > /dev/null || { echo "make bench wants cargo, which https://rustup.rs installs" >&2; exit 1; }
+	cd crates/bench_calls && rt lib
+	cd bench && cargo run --release -- ../docs/performance.svg

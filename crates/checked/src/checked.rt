@@ -52,7 +52,7 @@ fn line_answer(borrowed: &[u8], a: u64) -> Result<(), Fault>
     ensures { result ≡ line_answer borrowed.now a }
 {
     let from = line_start(a);
-    if exclusive_or(&borrowed[from..from + CHECKED_LINE]) != 0 {
+    if line_parity(&borrowed[from..from + CHECKED_LINE]) != 0 {
         return Err(Fault::here(Cause::FailedCheck, a));
     }
     Ok(())
@@ -84,6 +84,16 @@ fn cell_index(a: u64) -> usize
     ensures { result ≡ cell_index a }
 {
     line_start(a) + (a % LINE) as usize
+}
+
+// The exclusive or of a whole line. The check byte comes apart, since the compiler works out that of 128 bytes many at a time, and that of
+// 129 one by one.
+#[tactic(auto, using(crate::proofs::Xors::xor_line))]
+fn line_parity(line: &[u8]) -> u8
+    requires { length line.now ≡ 129 }
+    ensures { result ≡ exclusive_or line.now }
+{
+    exclusive_or(&line[0..128]) ^ line[128]
 }
 
 fn exclusive_or(bytes: &[u8]) -> u8

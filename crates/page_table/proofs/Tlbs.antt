@@ -1,7 +1,7 @@
 -- What a TLB holds: nothing at first, and what it is made to hold. Assumes nothing.
-use Rattle.std.proofs.Common.{◌≡◌, ℕ, ◌%◌, ◌^◌, ◌<◌, Bool, true, eqb, ltb, ◌⊎◌, length, get_or, set, Some, None, Ok, Option, sym, refl, ap, ◌∙◌, subst, inl, inr, ⊎_elim, arith}
+use Rattle.std.proofs.Common.{◌≡◌, ℕ, zero, suc, ◌+◌, ◌%◌, ◌^◌, ◌<◌, min, Bool, true, false, eqb, ltb, ◌⊎◌, length, get_or, set, Some, None, Ok, Option, sym, refl, ap, ◌∙◌, subst, inl, inr, ⊎_elim, arith}
 use Rattle.std.proofs.lemmas.List.{get_or-replicate, get_or-set_same, get_or-set_other, get_or_past, set_past}
-use Rattle.std.proofs.lemmas.Bool.{cases_Bool, cases_eq, cases_lt, cond-true, cond-false, eqb-true}
+use Rattle.std.proofs.lemmas.Bool.{cases_Bool, cases_eq, cases_lt, cond-true, cond-false, eqb-true, ltb-true, ltb-false}
 use Rattle.memory.specs.Meaning.{Meaning}
 use Rattle.page_table.specs.declared.entry.Entry.{Entry}
 use Rattle.page_table.specs.declared.table.Table.{Table}
@@ -9,7 +9,7 @@ use Rattle.page_table.specs.declared.tlb.Translation.{Translation}
 use Rattle.page_table.specs.declared.tlb.Tlb.{Tlb}
 use Rattle.page_table.specs.Entry.{is_live}
 use Rattle.page_table.specs.Table.{entry_address, entry_read}
-use Rattle.page_table.specs.Tlb.{entry_in, held_entry, empty_tlb, kept, counted}
+use Rattle.page_table.specs.Tlb.{entry_in, held_entry, empty_tlb, kept, counted, counted_hits, Steady}
 use Rattle.page_table.specs.Ready.{Holds}
 
 pub holds_nothing : (k : ℕ) → held_entry empty_tlb k ≡ None
@@ -71,3 +71,35 @@ module _ (t : Table) (m : Meaning) (h : Tlb) (holds : Holds t m h) where
     live = λ j x held. ⊎_elim (λ new. ap is_live (sym new.1) ∙ live) (λ old. holds.live j x old.1) (held_kept h k e j x held);
     low = λ j x held. ⊎_elim (λ new. subst (λ i. i < t.entries) new.0 low) (λ old. holds.low j x old.1) (held_kept h k e j x held);
   }
+
+-- hits, counted one by one and at once
+pub hits_at_once : (h : Tlb) (n : ℕ) → Steady h → counted_hits h n ≡ record { places = h.places; lookups = min (h.lookups + n) (2 ^ 48); fills = h.fills }
+unfolding counted_hits
+hits_at_once h zero steady = ap (λ k. record { places = h.places; lookups = k; fills = h.fills }) (omega (arith, steady.lookups))
+hits_at_once h (suc n) steady =
+    let k : ℕ = min (h.lookups + n) (2 ^ 48) in
+    let more : Tlb = record { places = h.places; lookups = k + 1; fills = h.fills } in
+    let same : Tlb = record { places = h.places; lookups = k; fills = h.fills } in
+    ap (λ t. counted t false) (hits_at_once h n steady) ∙ ⊎_elim
+    (λ low. cond-true (ltb k (2 ^ 48)) more same low ∙ ap (λ i. record { places = h.places; lookups = i; fills = h.fills }) (omega (arith, ltb-true k (2 ^ 48) low)))
+    (λ high. cond-false (ltb k (2 ^ 48)) more same high ∙ ap (λ i. record { places = h.places; lookups = i; fills = h.fills }) (omega (arith, ltb-false k (2 ^ 48) high)))
+    (cases_Bool (ltb k (2 ^ 48)))
+
+pub hits_are : (h : Tlb) (n k : ℕ) → Steady h → k ≡ min (h.lookups + n) (2 ^ 48) → record { places = h.places; lookups = k; fills = h.fills } ≡ counted_hits h n
+hits_are h n k steady is = ap (λ i. record { places = h.places; lookups = i; fills = h.fills }) is ∙ sym (hits_at_once h n steady)
+
+pub steady_hits : (h : Tlb) (n : ℕ) → Steady h → Steady (counted_hits h n)
+steady_hits h n steady = subst Steady (sym (hits_at_once h n steady)) (record { fills = omega (arith, steady.fills, steady.lookups); lookups = omega arith })
+
+pub held_hits : (h : Tlb) (n k : ℕ) → held_entry (counted_hits h n) k ≡ held_entry h k
+unfolding counted_hits
+held_hits h zero k = refl
+held_hits h (suc n) k = held_counted (counted_hits h n) false k ∙ held_hits h n k
+
+pub one_more_hit : (h : Tlb) (n : ℕ) → counted_hits h (n + 1) ≡ counted (counted_hits h n) false
+unfolding counted_hits
+one_more_hit h n = let next : n + 1 ≡ suc n = omega arith in ap (counted_hits h) next
+
+pub no_hit : (h : Tlb) → counted_hits h 0 ≡ h
+unfolding counted_hits
+no_hit h = refl

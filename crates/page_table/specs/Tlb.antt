@@ -4,8 +4,9 @@
 -- empty_tlb: nothing is held, and every count is 0
 -- kept t k e: t with the entry e held for the page k, in place of what stood in its place
 -- counted t filled: t with one lookup more, which was a fill or not; the lookup that reaches 2^48 is the last that counts
+-- counted_hits t n: t with n lookups more that found their entry held
 -- Steady t: what holds of the counts of every TLB
-use Rattle.std.specs.Prelude.{ℕ, ◌+◌, ◌%◌, ◌^◌, ◌≤◌, Bool, cond, nat_lt, slice_set, ◌==◌, replicate, slice_index_or, Some, None, Option}
+use Rattle.std.specs.Prelude.{ℕ, zero, suc, false, ◌+◌, ◌%◌, ◌^◌, ◌≤◌, Bool, cond, nat_lt, slice_set, ◌==◌, replicate, slice_index_or, Some, None, Option}
 use Rattle.page_table.specs.declared.entry.Entry.{Entry}
 use Rattle.page_table.specs.declared.tlb.Translation.{Translation}
 use Rattle.page_table.specs.declared.tlb.Tlb.{Tlb}
@@ -33,6 +34,10 @@ counted t filled =
     cond (nat_lt t.lookups (2 ^ 48))
     (record { places = t.places; lookups = t.lookups + 1; fills = cond filled (t.fills + 1) t.fills })
     t
+
+unfoldable pub counted_hits : Tlb → ℕ → Tlb
+counted_hits t zero = t
+counted_hits t (suc n) = counted (counted_hits t n) false
 
 pub record Steady (t : Tlb) : Type 0 where
   pub fills : t.fills ≤ t.lookups

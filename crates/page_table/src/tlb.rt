@@ -1,6 +1,6 @@
 // The TLB: the translations that a window holds, and its counts.
 ghost use Rattle.std.specs.Prelude.{◌≡◌, ℕ, None};
-ghost use Rattle.page_table.specs.Tlb.{empty_tlb, held_entry, kept, counted, Steady};
+ghost use Rattle.page_table.specs.Tlb.{empty_tlb, held_entry, kept, counted, counted_hits, Steady};
 
 use crate::entry::Entry;
 
@@ -70,6 +70,16 @@ impl Tlb {
             self.lookups += 1;
             self.fills += u64::from(filled);
         }
+    }
+
+    // So many lookups more that found their entry held.
+    #[tactic(auto, using(crate::proofs::Tlbs::hits_are, crate::proofs::Tlbs::steady_hits))]
+    pub fn count_hits(&mut self, hits: u32)
+        requires { Steady self.old }
+        ensures value { self.new ≡ counted_hits self.old hits }
+        ensures steady { Steady self.new }
+    {
+        self.lookups = (self.lookups + u64::from(hits)).min(MOST_LOOKUPS);
     }
 
     pub fn lookups(&self) -> u64

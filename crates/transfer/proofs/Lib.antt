@@ -12,3 +12,5 @@ pub mod Touching
 pub mod Effects
 pub mod Counting
 pub mod Outside
+pub mod Wholes
+pub mod Following

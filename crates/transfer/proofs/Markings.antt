@@ -1,5 +1,5 @@
 -- The marks of a run, page by page. Assumes nothing.
-use Rattle.std.proofs.Common.{◌≡◌, ℕ, ◌+◌, ◌<◌, ◌≤◌, List, [], ◌∷◌, map, drop, length, get_or, is_some, sym, refl, ap, ◌∙◌, subst}
+use Rattle.std.proofs.Common.{◌≡◌, ℕ, ◌+◌, ◌<◌, ◌≤◌, true, List, [], ◌∷◌, map, drop, length, get_or, is_some, sym, refl, ap, ◌∙◌, subst}
 use Rattle.std.proofs.lemmas.List.{drop_more, drop_all}
 use Rattle.memory.specs.Meaning.{Meaning, WellFormed}
 use Rattle.mapping.specs.Rules.{Layout}
@@ -10,7 +10,8 @@ use Rattle.page_table.specs.Walk.{walked, windowed}
 use Rattle.page_table.specs.Ready.{Holds, Ready}
 use Rattle.walk.specs.declared.spot.Spot.{Spot}
 use Rattle.memory.specs.declared.access.Access.{Access}
-use Rattle.walk.specs.Marks.{marked, refreshed}
+use Rattle.walk.specs.Marks.{marked, refreshed, held_marked}
+use Rattle.walk.proofs.Marking.{marked_already, refreshed_already}
 use Rattle.transfer.specs.Scatter.{LivePages, marked_pages, refreshed_pages}
 use Rattle.transfer.proofs.Alikes.{good_alike, marked_alike, marked_window}
 
@@ -50,6 +51,12 @@ module _ (l : Layout) (before : Meaning) (held : Tlb) (access : Access) (all : L
         };
         live = subst (λ y. LivePages (table_of l) y ks) (sym is) (live_after l m (marked (table_of l) access k m) alike.frames ks x.live.2);
       }
+
+  -- where it is held with its marks set, nothing is left to do
+  pub marking_same : held_marked access k h ≡ true → Marking l before held access all ks m h
+  marking_same set1 =
+      let r = x.ready in
+      marking_more m h (marked_already (table_of l) access k m h r.holds set1) (refreshed_already access k h set1) r.formed r.holds r.steady
 
 pub record MarkedAll (l : Layout) (before : Meaning) (held : Tlb) (access : Access) (ks : List ℕ) (m : Meaning) (h : Tlb) : Type 0 where
   pub below : m ≡ marked_pages (table_of l) access ks before

@@ -3,3 +3,5 @@ pub mod Lookups
 pub mod Scatter
 pub mod Call
 pub mod Effect
+pub mod Wholes
+pub mod Follows

@@ -1,5 +1,5 @@
 // The calls of an open window on a run of its image.
-ghost use Rattle.std.specs.Prelude.{◌≡◌, cond, is_ok, length, Ok};
+ghost use Rattle.std.specs.Prelude.{◌≡◌, length, Ok};
 ghost use Rattle.memory.specs.Run.{check_run};
 ghost use Rattle.memory.specs.Calls.{read_answer, write_answer, delivered, written};
 ghost use Rattle.memory.specs.Reach.{Reached};
@@ -40,7 +40,8 @@ pub fn read_run<P: Mapping, M: Memory>(
     read_taken(mapping, below, tlb, a, buffer)
 }
 
-// Gathers the run into the buffer, or refuses and leaves it. The marks are set once the whole run is accepted.
+// Gathers the run into the buffer, or refuses and leaves it: a run that is refused at a later grain has some of it gathered too. The marks
+// are set once the whole run is accepted.
 fn read_taken<P: Mapping, M: Memory>(
     mapping: &P,
     below: &mut M,
@@ -64,22 +65,11 @@ fn read_taken<P: Mapping, M: Memory>(
     let mut line = blank_line();
     let mut spots = blank_spots();
     let part = &mut line[0..buffer.len()];
-    let found = gather(mapping, below, tlb, a, part, &mut spots);
-    hand_over(&found, part, buffer);
-    let count = found?;
+    let count = gather(mapping, below, tlb, a, part, &mut spots)?;
     mark_pages(mapping, below, tlb, &spots[0..count], Access::Read);
+    // Last, so that the parts are stored by the time that the line is copied as a whole.
+    buffer.copy_from_slice(part);
     Ok(())
-}
-
-// Fills the buffer with the part of a line that was gathered. A run that is refused at a later grain has some of it gathered too, and
-// leaves the buffer.
-fn hand_over(found: &Result<usize, Fault>, part: &[u8], buffer: &mut [u8])
-    requires long { length part.now ≡ length buffer.old }
-    ensures buffer { buffer.new ≡ cond (is_ok found.now) part.now buffer.old }
-{
-    if found.is_ok() {
-        buffer.copy_from_slice(part);
-    }
 }
 
 // A write of a run of the image, which is refused as a read is.

@@ -1,9 +1,9 @@
 -- Marks: the first byte of an entry, and what setting it leaves. Assumes nothing.
-use Rattle.std.proofs.Common.{◌≡◌, ℕ, zero, suc, ◌+◌, ◌-◌, ◌%◌, ◌^◌, ◌<◌, ◌≤◌, true, false, cond, eqb, List, [], ◌∷◌, get_or, is_ok, is_some, Some, None, Ok, Err, Option, Result, sym, refl, ap, ◌∙◌, subst, inl, inr, ⊎_elim, arith}
+use Rattle.std.proofs.Common.{◌≡◌, ℕ, zero, suc, ◌+◌, ◌-◌, ◌%◌, ◌^◌, ◌<◌, ◌≤◌, true, false, cond, eqb, List, [], ◌∷◌, get_or, set, is_ok, is_some, Some, None, Ok, Err, Option, Result, sym, refl, ap, ◌∙◌, subst, inl, inr, ⊎_elim, arith}
 use native.Mathlib.Nat.{sub_self}
 use Rattle.std.specs.Int.{bit_at}
 use Rattle.std.specs.Result.{result_and, result_map_both}
-use Rattle.std.proofs.lemmas.Bool.{cases_Bool, cases_eq, cases_lt, cond-true, cond-false, and_parts, eq-eqb, false≢true}
+use Rattle.std.proofs.lemmas.Bool.{cases_Bool, cases_eq, cases_lt, cond-true, cond-false, and_parts, eq-eqb, eqb-true, false≢true}
 use Rattle.memory.specs.declared.fault.Fault.{Fault}
 use Rattle.memory.specs.Fault.{passed_up}
 use Rattle.memory.specs.Meaning.{Cell, byte, Meaning}
@@ -16,9 +16,12 @@ use Rattle.units.specs.Word.{word_at}
 use Rattle.page_table.specs.declared.entry.Entry.{Entry}
 use Rattle.page_table.specs.declared.table.Table.{Table}
 use Rattle.page_table.specs.declared.tlb.Tlb.{Tlb}
+use Rattle.page_table.specs.declared.tlb.Translation.{Translation}
 use Rattle.page_table.specs.Entry.{flag, entry_of, is_live, set_flag}
 use Rattle.page_table.specs.Table.{entry_address, entry_at, entry_read, frame_in, frame_of}
-use Rattle.page_table.specs.Tlb.{held_entry}
+use Rattle.page_table.specs.Tlb.{held_entry, entry_in, kept}
+use Rattle.std.specs.Prelude.{slice_index_or}
+use Rattle.std.proofs.lemmas.List.{set-get_or}
 use Rattle.page_table.specs.Ready.{Holds}
 use Rattle.page_table.proofs.Tlbs.{held_kept, none_some}
 use Rattle.memory.specs.declared.access.Access.{Access}
@@ -258,7 +261,30 @@ holds_marked t access k m h holds some = by (held_entry h k) refl where
             (held_kept h k (marked_entry access d) j x is);
       }
 
--- the same where the marks are set already, and the table is left alone
-pub holds_already : (t : Table) (access : Access) (k : ℕ) (m : Meaning) (h : Tlb) → Holds t m h → is_some (frame_of t m k) ≡ true → held_marked access k h ≡ true → Holds t m (refreshed access k h)
-holds_already t access k m h holds some yes1 =
-    subst (λ n. Holds t n (refreshed access k h)) (sym (marked_already t access k m h holds yes1)) (holds_marked t access k m h holds some)
+-- where the marks are set already, what is held stays as it is
+pub refreshed_already : (access : Access) (k : ℕ) (h : Tlb) → held_marked access k h ≡ true → h ≡ refreshed access k h
+unfolding refreshed
+refreshed_already access k h set1 = by (slice_index_or h.places (k % 32) None) refl set1 where
+  same_entry : (access : Access) (e : Entry) → is_marked access e ≡ true → marked_entry access e ≡ e
+  same_entry Read e yes1 = ap (λ b. record { valid = e.valid; referenced = b; modified = e.modified; out = e.out; frame = e.frame }) (sym yes1)
+  same_entry Write e yes1 =
+      let both = and_parts e.referenced e.modified yes1 in
+      ap (λ b. record { valid = e.valid; referenced = b; modified = true; out = e.out; frame = e.frame }) (sym both.0)
+      ∙ ap (λ b. record { valid = e.valid; referenced = e.referenced; modified = b; out = e.out; frame = e.frame }) (sym both.1)
+
+  by : (p : Option Translation) → slice_index_or h.places (k % 32) None ≡ p → marked_in access (entry_in k (slice_index_or h.places (k % 32) None)) ≡ true → h ≡ refreshed_by access k h (held_entry h k)
+  by None at yes1 = absurd (false≢true (sym (ap (λ p. marked_in access (entry_in k p)) at) ∙ yes1))
+  by (Some t) at yes1 = ⊎_elim
+      (λ mine.
+      let found : held_entry h k ≡ Some t.entry = ap (entry_in k) at ∙ cond-true (eqb t.page k) (Some t.entry) None mine in
+      let same : marked_entry access t.entry ≡ t.entry = same_entry access t.entry (ap (marked_in access) (sym found) ∙ yes1) in
+      let put : set h.places (k % 32) (Some t) ≡ h.places = ap (set h.places (k % 32)) (sym at) ∙ set-get_or h.places (k % 32) None in
+      let page : t.page ≡ k = eqb-true t.page k mine in
+      sym (ap (refreshed_by access k h) found
+      ∙ ap (kept h k) same
+      ∙ ap (λ i. kept_at i) (sym page)
+      ∙ ap (λ xs. record { places = xs; lookups = h.lookups; fills = h.fills }) put))
+      (λ other. absurd (false≢true (sym (ap (marked_in access) (ap (entry_in k) at ∙ cond-false (eqb t.page k) (Some t.entry) None other)) ∙ yes1)))
+      (cases_Bool (eqb t.page k)) where
+        kept_at : ℕ → Tlb
+        kept_at i = record { places = set h.places (k % 32) (Some (record { page = i; entry = t.entry })); lookups = h.lookups; fills = h.fills }

@@ -5,5 +5,5 @@ mod lookup;
 mod marks;
 mod spot;
 
-pub use marks::mark;
+pub use marks::{is_held_marked, mark};
 pub use spot::{Spot, walk};

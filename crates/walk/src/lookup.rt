@@ -12,6 +12,7 @@ use page_table::{Entry, Table, Tlb, read_entry};
 
 // One lookup: a held entry as it is held; another one is read, and held from then on if it is live.
 #[tactic(auto, using(crate::proofs::Lookups::read_is, crate::proofs::Lookups::looked_held, crate::proofs::Lookups::looked_read, crate::proofs::Lookups::holds_taken_in, memory::proofs::Reaches::only_read_none))]
+#[inline(always)]
 pub(crate) fn look_up<M: Memory>(
     below: &mut M,
     tlb: &mut Tlb,

@@ -13,8 +13,8 @@ use memory::{Access, Memory};
 use page_table::{Entry, Table, Tlb};
 
 // Sets the marks of a page whose entry is live, in the table and in what is held: the referenced bit, and for a write the modified
-// bit too. Where it is held with its marks set, the table is left alone.
-#[tactic(auto, using(crate::proofs::Marking::top_accepted, crate::proofs::Marking::marked_is, crate::proofs::Marking::marked_already, crate::proofs::Marking::holds_marked, crate::proofs::Marking::holds_already, memory::proofs::Reaches::reached_none))]
+// bit too. Where it is held with its marks set, both are left alone.
+#[tactic(auto, using(crate::proofs::Marking::top_accepted, crate::proofs::Marking::marked_is, crate::proofs::Marking::marked_already, crate::proofs::Marking::refreshed_already, crate::proofs::Marking::holds_marked, memory::proofs::Reaches::reached_none))]
 pub fn mark<M: Memory>(below: &mut M, tlb: &mut Tlb, table: Table, page: u32, access: Access)
     requires coherent { M.Memory.coherent below.old }
     requires inside { entry_address table page + 4 ≤ (M.Memory.meaning below.old).size }
@@ -29,15 +29,16 @@ pub fn mark<M: Memory>(below: &mut M, tlb: &mut Tlb, table: Table, page: u32, ac
     ensures holds { Holds table (M.Memory.meaning below.new) tlb.new }
     ensures steady { Steady tlb.new }
 {
-    let already = is_held_marked(tlb, page, access);
-    refresh(tlb, page, access);
-    if !already {
-        mark_top(below, table.entry_address(page), access);
+    if is_held_marked(tlb, page, access) {
+        return;
     }
+    refresh(tlb, page, access);
+    mark_top(below, table.entry_address(page), access);
 }
 
 // Whether the page is held, with its marks set.
-fn is_held_marked(tlb: &Tlb, page: u32, access: Access) -> bool
+#[inline(always)]
+pub fn is_held_marked(tlb: &Tlb, page: u32, access: Access) -> bool
     ensures { result ≡ held_marked access page tlb.now }
 {
     match tlb.get(page) {

@@ -23,6 +23,7 @@ pub struct Spot {
 
 // Where a byte of the image stands, or the fault that is met on the way: one lookup, if the mapping gives it a place.
 #[tactic(auto, using(crate::proofs::Walks::entry_below, memory::proofs::Reaches::only_read_none), unfolding(crate::specs::Lookup::looked_at))]
+#[inline(always)]
 pub fn walk<P: Mapping, M: Memory>(
     mapping: &P,
     below: &mut M,

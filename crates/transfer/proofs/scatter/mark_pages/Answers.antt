@@ -1,15 +1,17 @@
 -- Assumes nothing.
-use Rattle.std.proofs.Common.{ℕ, ◌+◌, ◌≤◌, get_or, sym, ap, ◌∙◌, subst}
+use Rattle.std.proofs.Common.{◌≡◌, true, ℕ, ◌+◌, ◌≤◌, get_or, sym, ap, ◌∙◌, subst}
+use Rattle.std.proofs.lemmas.Bool.{false≢true}
 use Rattle.memory.proofs.Reaches.{reached_none, reached_more}
 use Rattle.page_table.specs.Table.{table_of, entry_address}
 use Rattle.page_table.specs.Ready.{Holds}
-use Rattle.walk.specs.Marks.{marked}
+use Rattle.walk.specs.declared.spot.Spot.{Spot}
+use Rattle.walk.specs.Marks.{marked, held_marked}
 use Rattle.walk.proofs.Walks.{table_inside}
-use Rattle.transfer.proofs.Markings.{marking_none, marking_more, marking_all, next_page, none_left}
+use Rattle.transfer.proofs.Markings.{marking_none, marking_more, marking_same, marking_all, next_page, none_left}
 use Rattle.transfer.proofs.scatter.mark_pages.Goals as goal
 
 pub loop-spot-init : goal.loop-spot-init
-loop-spot-init g c = (marking_none _ _ _ _ _ c.requires.ready c.requires.live, c.requires.coherent, reached_none g.M.Memory.step _)
+loop-spot-init g c = (marking_none _ _ _ _ _ c.requires.ready c.requires.live, c.requires.coherent, reached_none g.M.Memory.step _, λ marked. absurd (false≢true marked))
 
 pub mark-requires-clause-inside : goal.mark-requires-clause-inside
 mark-requires-clause-inside g c =
@@ -35,7 +37,19 @@ loop-spot-preserved g c =
           e.steady,
       e.coherent,
       reached_more g.M.Memory.step c.loop-spot.invariant.2 e.reached,
+      λ marked. sym c.is_held_marked-is_marked.ensures ∙ marked,
     )
+
+pub loop-spot-preserved-then-spot-page : goal.loop-spot-preserved-then-spot-page
+loop-spot-preserved-then-spot-page g c =
+    let l = g.P.Mapping.meaning c.args.mapping.now in
+    let m = g.M.Memory.meaning c.loop-spot.below in
+    let nowhere : Spot = record { page = 0; address = record { 0 = 0 } } in
+    let k : ℕ = (get_or c.args.spots.now c.loop-spot.spot-index nowhere).page in
+    let x = next_page c.args.spots.now c.loop-spot.spot-index nowhere c.loop-spot-test.true c.loop-spot.invariant.0 in
+    let before = c.loop-spot.invariant.3 c.if-is_marked.true in
+    let here : held_marked c.args.access k c.loop-spot.tlb ≡ true = ap (λ i. held_marked c.args.access i c.loop-spot.tlb) c.if-spot-page.true ∙ before in
+    (marking_same l _ _ _ _ k _ m c.loop-spot.tlb x here, c.loop-spot.invariant.1, c.loop-spot.invariant.2, c.loop-spot.invariant.3)
 
 pub returns-clause-below : goal.returns-clause-below
 returns-clause-below g c = (marking_all _ _ _ _ _ _ _ _ (none_left c.args.spots.now c.loop-spot.spot-index c.loop-spot-test.false) c.loop-spot.invariant.0).below

@@ -1,7 +1,8 @@
-use Rattle.std.proofs.Common.{drop}
+use Rattle.std.proofs.Common.{◌+◌, ◌-◌, length, drop}
+use Rattle.transfer.specs.Wholes.{Whole}
 use Rattle.memory.specs.Reach.{Reached}
 use Rattle.transfer.proofs.Scattering.{Scattering}
-use Rattle.transfer.proofs.scatter.scatter.Given as goal
+use Rattle.transfer.proofs.scatter.scatter_by.Given as goal
 
 -- The bytes of the spots before are stored.
 abbrev pub invariant-loop-spot : goal.invariant-loop-spot
@@ -11,3 +12,4 @@ invariant-loop-spot g l =
     Scattering layout (m.meaning l.fn.below) l.a.0 l.bytes (drop l.spot-index l.spots) l.done (m.meaning l.below)
     × m.coherent l.below
     × Reached m.step l.fn.below l.below
+    × Whole l.whole l.grain (l.a.0 + l.done) (length l.bytes - l.done)
