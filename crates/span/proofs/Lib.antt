@@ -1,0 +1,4 @@
+pub mod Ones
+pub mod Parts
+pub mod Lengths
+pub mod Goings

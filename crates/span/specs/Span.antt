@@ -1,0 +1,32 @@
+-- What calls come to that are made up to the first refused one. Assumes nothing.
+-- Ended: the answer of the last call that was made; how many bytes the calls before it were of, or all; and the state that they left
+-- later n e: e, after calls of n bytes
+-- go_on n x rest r: what follows a call of n bytes, which was answered with r and left x, where `rest` is what the others come to
+-- ended answer after cs x: what the calls cs come to from the state x, where `answer` and `after` say what one call does
+-- window_answer l x c: the answer of an open window to the call c
+use Rattle.std.specs.Prelude.{ℕ, ◌+◌, List, [], ◌∷◌, Ok, Err, Result}
+use Rattle.memory.specs.declared.fault.Fault.{Fault}
+use Rattle.memory.specs.Reach.{Call, cells_of}
+use Rattle.mapping.specs.Rules.{Layout}
+use Rattle.page_table.specs.Walk.{windowed}
+use Rattle.call_list.specs.Model.{call_answer}
+use Rattle.window_list.specs.Played.{Behind}
+
+pub record Ended (X : Type 0) : Type 0 where
+  pub answer : Result (Unit {0}) Fault
+  pub done : ℕ
+  pub left : X
+
+abbrev pub later : {X : Type 0} → ℕ → Ended X → Ended X
+later n e = record { answer = e.answer; done = n + e.done; left = e.left }
+
+abbrev pub go_on : {X : Type 0} → ℕ → X → Ended X → Result (Unit {0}) Fault → Ended X
+go_on n x rest (Ok u) = later n rest
+go_on n x rest (Err f) = record { answer = Err f; done = 0; left = x }
+
+unfoldable pub ended : {X : Type 0} → (X → Call → Result (Unit {0}) Fault) → (X → Call → X) → List Call → X → Ended X
+ended reply after [] x = record { answer = Ok tt; done = 0; left = x }
+ended reply after (c ∷ cs) x = go_on (cells_of c) (after x c) (ended reply after cs (after x c)) (reply x c)
+
+abbrev pub window_answer : Layout → Behind → Call → Result (Unit {0}) Fault
+window_answer l x c = call_answer (windowed l x.cells) c
