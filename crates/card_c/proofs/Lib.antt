@@ -1,1 +1,3 @@
 pub mod Offers
+pub mod Owned
+pub mod Fillings

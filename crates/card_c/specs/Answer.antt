@@ -1,15 +1,21 @@
 -- Answers, in plain numbers. Assumes nothing.
 -- unknown_choice n: the refusal of a number that chooses nothing, with the reason n
 -- set_up_refused e, opening_refused e: a refusal of the registers, and of the opening
--- refused r: the answer where the call was refused so
--- opened r: the answer of an opening that was answered with r, after which no more was asked
+-- fault_numbers r: the fault of the answer r
+-- refused r: the answer where no window was opened, with the refusal r
+-- span_answer r n t: the answer where a span was answered with r after n bytes, and left the TLB t
 use Rattle.std.specs.Prelude.{ℕ, Ok, Err, Result}
+use Rattle.memory.specs.declared.fault.Fault.{Fault}
+use Rattle.memory.specs.Fault.{cause_number}
 use Rattle.mapping.specs.Refusal.{register_refusal_number, arming_refusal_number}
+use Rattle.page_table.specs.declared.tlb.Tlb.{Tlb}
+use Rattle.page_table.specs.Tlb.{empty_tlb}
 use Rattle.opening.specs.declared.reason.OpeningRefusal.{OpeningRefusal}
 use Rattle.opening.specs.Reason.{reason_number}
 use Rattle.card.specs.declared.refusal.SetUpRefusal.{SetUpRefusal}
 use Rattle.card.specs.declared.refusal.SetUpRefusal.TheVariants.{Register, Arming}
 use Rattle.card_c.specs.declared.answer.CardRefusal.{CardRefusal}
+use Rattle.card_c.specs.declared.answer.CardFault.{CardFault}
 use Rattle.card_c.specs.declared.answer.CardAnswer.{CardAnswer}
 
 abbrev pub unknown_choice : ℕ → CardRefusal
@@ -22,14 +28,24 @@ set_up_refused (Arming e) = record { reason = arming_refusal_number e; number = 
 abbrev pub opening_refused : OpeningRefusal → CardRefusal
 opening_refused e = record { reason = reason_number e.reason; number = e.entry }
 
+abbrev pub fault_numbers : Result (Unit {0}) Fault → CardFault
+fault_numbers (Ok u) = record { cause = 0; depth = 0; place = 0 }
+fault_numbers (Err f) = record { cause = cause_number f.cause; depth = f.depth; place = f.place }
+
 abbrev pub refused : CardRefusal → CardAnswer
 refused r = record {
   refusal = r;
   fault = record { cause = 0; depth = 0; place = 0 };
   done = 0;
-  report = record { lookups = 0; fills = 0 };
+  window = record { lookups = 0; fills = 0 };
+  cache = record { reads = 0; hits = 0; prefetches = 0; share = 0 };
 }
 
-abbrev pub opened : Result (Unit {0}) OpeningRefusal → CardAnswer
-opened (Ok u) = refused (record { reason = 0; number = 0 })
-opened (Err e) = refused (opening_refused e)
+abbrev pub span_answer : Result (Unit {0}) Fault → ℕ → Tlb → CardAnswer
+span_answer r n t = record {
+  refusal = record { reason = 0; number = 0 };
+  fault = fault_numbers r;
+  done = n;
+  window = record { lookups = t.lookups; fills = t.fills };
+  cache = record { reads = 0; hits = 0; prefetches = 0; share = 0 };
+}

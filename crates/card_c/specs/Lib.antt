@@ -1,3 +1,4 @@
 pub mod Answer
 pub mod Setup
-pub mod Check
+pub mod Called
+pub mod Bytes

@@ -1,9 +1,13 @@
 // What a call answers, in plain numbers. docs/linking.md, "Answers", says what each is.
 ghost use Rattle.std.specs.Prelude.{◌≡◌};
-ghost use Rattle.card_c.specs.Answer.{unknown_choice, set_up_refused, opening_refused, refused};
+ghost use Rattle.page_table.specs.declared.tlb.Tlb.{Tlb};
+ghost use Rattle.card_c.specs.Answer.{unknown_choice, set_up_refused, opening_refused, fault_numbers, refused, span_answer};
 
 use card::SetUpRefusal;
+use memory::Fault;
 use opening::OpeningRefusal;
+use page_table::Tlb;
+use span::Spanned;
 
 // Why no window was opened, all 0 if one was.
 #[repr(C)]
@@ -23,12 +27,20 @@ pub struct CardFault {
     pub place: u64,
 }
 
-// What was counted from the opening on.
 #[repr(C)]
 #[derive(Clone, Copy)]
-pub struct CardReport {
+pub struct CardWindowReport {
     pub lookups: u64,
     pub fills: u64,
+}
+
+#[repr(C)]
+#[derive(Clone, Copy)]
+pub struct CardCacheReport {
+    pub reads: u64,
+    pub hits: u64,
+    pub prefetches: u64,
+    pub share: u64,
 }
 
 #[repr(C)]
@@ -38,7 +50,10 @@ pub struct CardAnswer {
     pub fault: CardFault,
     // how many bytes were read or written
     pub done: u64,
-    pub report: CardReport,
+    // what the window counted
+    pub window: CardWindowReport,
+    // what the cache counted, all 0 if there is none
+    pub cache: CardCacheReport,
 }
 
 impl CardRefusal {
@@ -82,23 +97,68 @@ impl CardRefusal {
     }
 }
 
+impl CardFault {
+    fn of_answer(answer: Result<(), Fault>) -> CardFault
+        ensures { result ≡ fault_numbers answer }
+    {
+        match answer {
+            Ok(()) => CardFault {
+                cause: 0,
+                depth: 0,
+                place: 0,
+            },
+            Err(fault) => CardFault {
+                cause: u64::from(fault.cause.number()),
+                depth: u64::from(fault.depth),
+                place: fault.place,
+            },
+        }
+    }
+}
+
+impl CardCacheReport {
+    fn none() -> CardCacheReport
+        ensures { result ≡ record { reads = 0; hits = 0; prefetches = 0; share = 0 } }
+    {
+        CardCacheReport {
+            reads: 0,
+            hits: 0,
+            prefetches: 0,
+            share: 0,
+        }
+    }
+}
+
 impl CardAnswer {
-    // The answer where no window was opened, or where one was and no more was asked.
+    // Where no window was opened.
     pub(crate) fn refused(refusal: CardRefusal) -> CardAnswer
         ensures { result ≡ refused refusal }
     {
         CardAnswer {
             refusal,
-            fault: CardFault {
-                cause: 0,
-                depth: 0,
-                place: 0,
-            },
+            fault: CardFault::of_answer(Ok(())),
             done: 0,
-            report: CardReport {
+            window: CardWindowReport {
                 lookups: 0,
                 fills: 0,
             },
+            cache: CardCacheReport::none(),
+        }
+    }
+
+    // Where one was, and a span of it was asked for.
+    pub(crate) fn of_span(spanned: Spanned, tlb: &Tlb) -> CardAnswer
+        ensures { result ≡ span_answer spanned.answer spanned.done tlb.now }
+    {
+        CardAnswer {
+            refusal: CardRefusal::none(),
+            fault: CardFault::of_answer(spanned.answer),
+            done: spanned.done as u64,
+            window: CardWindowReport {
+                lookups: tlb.lookups(),
+                fills: tlb.fills(),
+            },
+            cache: CardCacheReport::none(),
         }
     }
 }

@@ -1,17 +1,12 @@
 // A window is opened, and closed again.
-ghost use Rattle.std.specs.Prelude.{◌≡◌, cond, is_ok, length, replicate};
+ghost use Rattle.std.specs.Prelude.{◌≡◌, [], cond, is_ok, length, replicate};
 ghost use Rattle.memory.specs.Reach.{OnlyRead};
-ghost use Rattle.page_table.specs.Table.{table_of};
-ghost use Rattle.opening.specs.Opening.{check_opening};
-ghost use Rattle.card.specs.SetUp.{values_armed};
-ghost use Rattle.card_c.specs.Setup.{meaning_of};
-ghost use Rattle.card_c.specs.Answer.{opened};
-ghost use Rattle.card_c.specs.Check.{card_checked, checked_by};
+ghost use Rattle.card_c.specs.Setup.{meaning_of, layout_by};
+ghost use Rattle.card_c.specs.Called.{called, called_by, card_called, board_after};
 
 use crate::answer::{CardAnswer, CardRefusal};
-use crate::registers::offered;
+use crate::registers::armed_mapping;
 use crate::setup::{CardSetup, Choices, Format, MappingType};
-use card::armed_set;
 use checked::CheckByte;
 use colour::Colour;
 use direct::Direct;
@@ -25,7 +20,9 @@ use transpose::Transpose;
 // Says whether a window opens over the bytes. The board is what the opening takes notes on: a byte for each whole page.
 #[unsafe(no_mangle)]
 pub extern "C" fn card_check(setup: CardSetup, bytes: &mut [u8], board: &mut [u8]) -> CardAnswer
-    ensures { result ≡ card_checked setup bytes.old (length board.old) }
+    ensures answer { result ≡ card_called setup bytes.old (length board.old) [] }
+    ensures bytes { bytes.new ≡ bytes.old }
+    ensures board { board.new ≡ board_after setup board.old }
 {
     let Choices { mapping, format } = match setup.choices() {
         Ok(choices) => choices,
@@ -46,7 +43,9 @@ fn check_by<P: Mapping>(
     bytes: &mut [u8],
     board: &mut [u8],
 ) -> CardAnswer
-    ensures { result ≡ checked_by P.Registers.rules (meaning_of format bytes.old) registers.now (length board.old) }
+    ensures answer { result ≡ called_by (layout_by P.Registers.rules registers.now) (length board.old) [] (meaning_of format bytes.old) }
+    ensures bytes { bytes.new ≡ bytes.old }
+    ensures board { board.new ≡ cond (is_ok (layout_by P.Registers.rules registers.now)) (replicate (length board.old) 0) board.old }
 {
     match format {
         Format::Plain => check_bytes::<P, CellsAlone>(registers, bytes, board),
@@ -59,22 +58,26 @@ fn check_bytes<P: Mapping, F: LineFormat>(
     bytes: &mut [u8],
     board: &mut [u8],
 ) -> CardAnswer
-    ensures { result ≡ checked_by P.Registers.rules (F.meaning bytes.old) registers.now (length board.old) }
+    ensures answer { result ≡ called_by (layout_by P.Registers.rules registers.now) (length board.old) [] (F.meaning bytes.old) }
+    ensures bytes { bytes.new ≡ bytes.old }
+    ensures board { board.new ≡ cond (is_ok (layout_by P.Registers.rules registers.now)) (replicate (length board.old) 0) board.old }
 {
-    let (writes, count) = offered(registers);
-    match armed_set::<P>(&writes[..count]) {
-        Ok(set) => {
+    match armed_mapping::<P>(registers) {
+        Ok(mapping) => {
             let mut below = ByteMemory::<F>::new(bytes);
-            check_memory(&set.into_mapping(), &mut below, board)
+            check_memory(&mapping, &mut below, board)
         }
-        Err(refusal) => CardAnswer::refused(CardRefusal::of_set_up(refusal)),
+        Err(refusal) => CardAnswer::refused(refusal),
     }
 }
 
+#[tactic(auto, unfolding(span::specs::Span::ended))]
 fn check_memory<P: Mapping, M: Memory>(mapping: &P, below: &mut M, board: &mut [u8]) -> CardAnswer
     requires armed { P.Mapping.armed mapping.now }
     requires coherent { M.Memory.coherent below.old }
-    ensures { result ≡ opened (check_opening (table_of (P.Mapping.meaning mapping.now)) (M.Memory.meaning below.old) (length board.old)) }
+    ensures answer { result ≡ called (P.Mapping.meaning mapping.now) (length board.old) [] (M.Memory.meaning below.old) }
+    ensures board { board.new ≡ replicate (length board.old) 0 }
+    ensures reads { OnlyRead M.Memory.step below.old below.new }
 {
     match check_opening(mapping, below, board) {
         Ok(()) => CardAnswer::refused(CardRefusal::none()),

@@ -1,11 +1,26 @@
-// The register writes that a caller's values ask for.
-ghost use Rattle.std.specs.Prelude.{◌≡◌, ◌≤◌, take};
-ghost use Rattle.card_c.specs.Setup.{offered};
+// The mapping of a caller's register values.
+ghost use Rattle.std.specs.Prelude.{◌≡◌, ◌≤◌, take, IfOk};
+ghost use Rattle.std.specs.Result.{result_map_both};
+ghost use Rattle.card_c.specs.Setup.{offered, layout_by};
 
-use card::RegisterWrite;
+use crate::answer::CardRefusal;
+use card::{RegisterWrite, armed_set};
+use mapping::Mapping;
+
+// The mapping that is armed with these values, or why it is not.
+pub(crate) fn armed_mapping<P: Mapping>(registers: &[u64; 5]) -> Result<P, CardRefusal>
+    ensures layout { result_map_both P.Mapping.meaning (λ e. e) result ≡ layout_by P.Registers.rules registers.now }
+    ensures armed { IfOk result P.Mapping.armed }
+{
+    let (writes, count) = offered(registers);
+    match armed_set::<P>(&writes[..count]) {
+        Ok(set) => Ok(set.into_mapping()),
+        Err(refusal) => Err(CardRefusal::of_set_up(refusal)),
+    }
+}
 
 // The writes, first in the array, and how many they are. A register is 0 at the beginning, so only other values are written.
-pub(crate) fn offered(registers: &[u64; 5]) -> ([RegisterWrite; 5], usize)
+fn offered(registers: &[u64; 5]) -> ([RegisterWrite; 5], usize)
     ensures writes { take result.1 result.0 ≡ offered 0 registers.now }
     ensures few { result.1 ≤ 5 }
 {

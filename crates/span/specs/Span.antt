@@ -3,9 +3,12 @@
 -- later n e: e, after calls of n bytes
 -- go_on n x rest r: what follows a call of n bytes, which was answered with r and left x, where `rest` is what the others come to
 -- ended answer after cs x: what the calls cs come to from the state x, where `answer` and `after` say what one call does
+-- filled m a n b: a buffer that held b, once the n bytes of m from a on were read into it
 -- window_answer l x c: the answer of an open window to the call c
-use Rattle.std.specs.Prelude.{ℕ, ◌+◌, List, [], ◌∷◌, Ok, Err, Result}
+use Rattle.std.specs.Prelude.{ℕ, ◌+◌, List, [], ◌∷◌, ◌++◌, drop, Ok, Err, Result}
 use Rattle.memory.specs.declared.fault.Fault.{Fault}
+use Rattle.memory.specs.Meaning.{Meaning}
+use Rattle.memory.specs.Calls.{bytes}
 use Rattle.memory.specs.Reach.{Call, cells_of}
 use Rattle.mapping.specs.Rules.{Layout}
 use Rattle.page_table.specs.Walk.{windowed}
@@ -30,3 +33,6 @@ ended reply after (c ∷ cs) x = go_on (cells_of c) (after x c) (ended reply aft
 
 abbrev pub window_answer : Layout → Behind → Call → Result (Unit {0}) Fault
 window_answer l x c = call_answer (windowed l x.cells) c
+
+abbrev pub filled : Meaning → ℕ → ℕ → List ℕ → List ℕ
+filled m a n b = bytes m.cell a n ++ drop n b

@@ -7,8 +7,8 @@ use Rattle.card_c.proofs.registers.offered.Goals.{then-value-ne0, else-value-ne0
 pub loop-number-preserved : goal.loop-number-preserved
 loop-number-preserved c =
     elim c.if-value-ne0.branch [
-    | then-value-ne0 w ↦ record { whole = search (rules, offered_more); few = omega arith; room = search rules }
-    | else-value-ne0 w ↦ record { whole = search (rules, offered_skipped); few = omega arith; room = search rules }
+      | then-value-ne0 w ↦ record { whole = search (rules, offered_more); few = omega arith; room = search rules }
+      | else-value-ne0 w ↦ record { whole = search (rules, offered_skipped); few = omega arith; room = search rules }
     ]
 
 pub returns-clause-writes : goal.returns-clause-writes

@@ -7,5 +7,5 @@ abbrev pub invariant-loop-number : goal.invariant-loop-number
 invariant-loop-number l = record {
   whole : offered 0 l.registers ≡ take l.count l.writes ++ offered l.number (drop l.number l.registers);
   few : l.count ≤ l.number;
-  room : length l.writes ≡ 5
+  room : length l.writes ≡ 5;
 }
