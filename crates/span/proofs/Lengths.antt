@@ -1,6 +1,7 @@
 -- How long the run of a call is, and where an accepted one ends. Assumes nothing.
 use Rattle.std.proofs.Common.{◌≡◌, ℕ, ◌+◌, ◌^◌, ◌<◌, List, length, Ok, refl, sym, ◌∙◌, arith}
-use Rattle.memory.specs.Meaning.{Meaning}
+use Rattle.memory.specs.Meaning.{Meaning, WellFormed}
+use Rattle.memory.specs.Up.{cells_up}
 use Rattle.memory.specs.Calls.{read_answer, write_answer}
 use Rattle.memory.specs.Reach.{reading, writing, cells_of}
 use Rattle.memory.proofs.Runs.{Taken}
@@ -24,3 +25,12 @@ read_ends l m laws a n taken =
 
 pub write_ends : (l : Layout) (m : Meaning) → Lawful l → (a n : ℕ) → write_answer (windowed l m) a n ≡ Ok tt → a + n < 2 ^ 64
 write_ends l m laws a n taken = read_ends l m laws a n (sym (writes_as_reads (windowed l m) a n) ∙ taken)
+
+-- the same of a cache over a memory
+pub read_ends_cached : (m : Meaning) → WellFormed m → (a n : ℕ) → read_answer (cells_up m) a n ≡ Ok tt → a + n < 2 ^ 64
+read_ends_cached m formed a n taken =
+    let t : Taken m.size a n = accepted_taken (cells_up m) a n taken in
+    omega (arith, formed.most)
+
+pub write_ends_cached : (m : Meaning) → WellFormed m → (a n : ℕ) → write_answer (cells_up m) a n ≡ Ok tt → a + n < 2 ^ 64
+write_ends_cached m formed a n taken = read_ends_cached m formed a n (sym (writes_as_reads (cells_up m) a n) ∙ taken)

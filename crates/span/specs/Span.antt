@@ -4,16 +4,18 @@
 -- go_on n x rest r: what follows a call of n bytes, which was answered with r and left x, where `rest` is what the others come to
 -- ended answer after cs x: what the calls cs come to from the state x, where `answer` and `after` say what one call does
 -- filled m a n b: a buffer that held b, once the n bytes of m from a on were read into it
--- window_answer l x c: the answer of an open window to the call c
+-- window_answer l x c, cache_answer x c: the answer of an open window, and of a cache, to the call c
 use Rattle.std.specs.Prelude.{ℕ, ◌+◌, List, [], ◌∷◌, ◌++◌, drop, Ok, Err, Result}
 use Rattle.memory.specs.declared.fault.Fault.{Fault}
 use Rattle.memory.specs.Meaning.{Meaning}
 use Rattle.memory.specs.Calls.{bytes}
+use Rattle.memory.specs.Up.{cells_up}
 use Rattle.memory.specs.Reach.{Call, cells_of}
 use Rattle.mapping.specs.Rules.{Layout}
 use Rattle.page_table.specs.Walk.{windowed}
 use Rattle.call_list.specs.Model.{call_answer}
 use Rattle.window_list.specs.Played.{Behind}
+use Rattle.cache_list.specs.Behind as cached
 
 pub record Ended (X : Type 0) : Type 0 where
   pub answer : Result (Unit {0}) Fault
@@ -33,6 +35,9 @@ ended reply after (c ∷ cs) x = go_on (cells_of c) (after x c) (ended reply aft
 
 abbrev pub window_answer : Layout → Behind → Call → Result (Unit {0}) Fault
 window_answer l x c = call_answer (windowed l x.cells) c
+
+abbrev pub cache_answer : cached.Behind → Call → Result (Unit {0}) Fault
+cache_answer x c = call_answer (cells_up x.cells) c
 
 abbrev pub filled : Meaning → ℕ → ℕ → List ℕ → List ℕ
 filled m a n b = bytes m.cell a n ++ drop n b

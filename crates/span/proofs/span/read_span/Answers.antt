@@ -63,9 +63,9 @@ loop-run-preserved g c =
     let taken = sym e.answer ∙ c.in_default.is in
     let size : length (part_of done n c.loop-run.buffer) ≡ n = length_part done n c.loop-run.buffer (inside g at) in
     let new : c.read_one.new.buffer ≡ bytes (windowed (g.P.Mapping.meaning c.args.mapping.now) (g.M.Memory.meaning c.args.below.now)).cell (c.args.a.0 + done) n =
-        e.buffer ∙ delivered_taken _ _ _ c.in_default.field-0 taken
-        ∙ ap (λ w. bytes w.cell (c.args.a.0 + done) (length (part_of done n c.loop-run.buffer))) f.window
-        ∙ ap (bytes (windowed (g.P.Mapping.meaning c.args.mapping.now) (g.M.Memory.meaning c.args.below.now)).cell (c.args.a.0 + done)) size in
+    e.buffer ∙ delivered_taken _ _ _ c.in_default.field-0 taken
+    ∙ ap (λ w. bytes w.cell (c.args.a.0 + done) (length (part_of done n c.loop-run.buffer))) f.window
+    ∙ ap (bytes (windowed (g.P.Mapping.meaning c.args.mapping.now) (g.M.Memory.meaning c.args.below.now)).cell (c.args.a.0 + done)) size in
     let long : length c.read_one.new.buffer ≡ n = ap length new ∙ length_bytes _ (c.args.a.0 + done) n in
     record {
       so_far = span_more _ _ _ _ f.so_far (c.run_count-run-end.result - (c.loop-run.run + 1)) (omega (arith, c.loop-run-test.true)) n (run g at) _ (part_is done n c.loop-run.buffer) _ e.behind

@@ -25,5 +25,5 @@ invariant-loop-run g l =
       small : l.fn.a.0 + l.done < 2 ^ 64;
       kept : m.coherent l.below;
       reached : Reached m.step l.fn.below l.below;
-      ready : Ready layout (m.meaning l.below) l.tlb
+      ready : Ready layout (m.meaning l.below) l.tlb;
     }
