@@ -1,6 +1,6 @@
 -- What the numbers of a caller choose. Assumes nothing.
--- mapping_type n, line_format n: the mapping and the format of the number n
--- choices mapping format: what both choose, or the refusal of the first that chooses nothing
+-- mapping_type n, line_format n, cache_place n: what the number n chooses
+-- choices mapping format cache: what all three choose, or the refusal of the first that chooses nothing
 -- rules_of t: the rules of a mapping
 -- meaning_of f bytes: the memory that the bytes mean by the format f
 -- updated_of f bytes a bs: what the bytes are after a write of bs at a
@@ -25,6 +25,8 @@ use Rattle.card_c.specs.declared.setup.MappingType.{MappingType}
 use Rattle.card_c.specs.declared.setup.MappingType.TheVariants.{Direct, Colour, Stride, Transpose}
 use Rattle.card_c.specs.declared.setup.Format.{Format}
 use Rattle.card_c.specs.declared.setup.Format.TheVariants.{Plain, Checked}
+use Rattle.card_c.specs.declared.setup.CachePlace.{CachePlace}
+use Rattle.card_c.specs.declared.setup.CachePlace.TheVariants.{Absent, Under, Over}
 use Rattle.card_c.specs.declared.setup.Choices.{Choices}
 use Rattle.card_c.specs.Answer.{unknown_choice, set_up_refused}
 
@@ -38,13 +40,17 @@ mapping_type n =
 abbrev pub line_format : ℕ → Option Format
 line_format n = cond (n == 1) (Some Plain) (cond (n == 2) (Some Checked) None)
 
-abbrev pub both : Option MappingType → Option Format → Result Choices CardRefusal
-both None f = Err (unknown_choice 31)
-both (Some t) None = Err (unknown_choice 32)
-both (Some t) (Some f) = Ok (record { mapping = t; format = f })
+abbrev pub cache_place : ℕ → Option CachePlace
+cache_place n = cond (n == 0) (Some Absent) (cond (n == 1) (Some Under) (cond (n == 2) (Some Over) None))
 
-abbrev pub choices : ℕ → ℕ → Result Choices CardRefusal
-choices mapping format = both (mapping_type mapping) (line_format format)
+abbrev pub all_three : Option MappingType → Option Format → Option CachePlace → Result Choices CardRefusal
+all_three None f p = Err (unknown_choice 31)
+all_three (Some t) None p = Err (unknown_choice 32)
+all_three (Some t) (Some f) None = Err (unknown_choice 33)
+all_three (Some t) (Some f) (Some p) = Ok (record { mapping = t; format = f; cache = p })
+
+abbrev pub choices : ℕ → ℕ → ℕ → Result Choices CardRefusal
+choices mapping format cache = all_three (mapping_type mapping) (line_format format) (cache_place cache)
 
 abbrev pub rules_of : MappingType → Rules
 rules_of Direct = direct_rules

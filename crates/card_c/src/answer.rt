@@ -1,13 +1,14 @@
 // What a call answers, in plain numbers. docs/linking.md, "Answers", says what each is.
 ghost use Rattle.std.specs.Prelude.{◌≡◌};
-ghost use Rattle.page_table.specs.declared.tlb.Tlb.{Tlb};
-ghost use Rattle.card_c.specs.Answer.{unknown_choice, set_up_refused, opening_refused, fault_numbers, refused, span_answer};
+ghost use Rattle.card_c.specs.Answer.{unknown_choice, set_up_refused, opening_refused, fault_numbers, cache_numbers, refused, span_answer, cached_answer};
 
+use cache::CacheReport;
 use card::SetUpRefusal;
 use memory::Fault;
 use opening::OpeningRefusal;
 use page_table::Tlb;
 use span::Spanned;
+use window::WindowReport;
 
 // Why no window was opened, all 0 if one was.
 #[repr(C)]
@@ -117,6 +118,17 @@ impl CardFault {
 }
 
 impl CardCacheReport {
+    fn of_report(report: CacheReport) -> CardCacheReport
+        ensures { result ≡ cache_numbers report }
+    {
+        CardCacheReport {
+            reads: report.reads,
+            hits: report.hits,
+            prefetches: report.prefetches,
+            share: report.share,
+        }
+    }
+
     fn none() -> CardCacheReport
         ensures { result ≡ record { reads = 0; hits = 0; prefetches = 0; share = 0 } }
     {
@@ -159,6 +171,35 @@ impl CardAnswer {
                 fills: tlb.fills(),
             },
             cache: CardCacheReport::none(),
+        }
+    }
+    // The same call, with what a cache counted below the window.
+    pub(crate) fn with_cache(self, report: CacheReport) -> CardAnswer
+        ensures { result ≡ record self { cache = cache_numbers report } }
+    {
+        CardAnswer {
+            cache: CardCacheReport::of_report(report),
+            ..self
+        }
+    }
+
+    // Where a span of a cache over a window was asked for.
+    pub(crate) fn of_cached(
+        spanned: Spanned,
+        cache: CacheReport,
+        window: WindowReport,
+    ) -> CardAnswer
+        ensures { result ≡ cached_answer spanned.answer spanned.done cache (record { lookups = window.lookups; fills = window.fills }) }
+    {
+        CardAnswer {
+            refusal: CardRefusal::none(),
+            fault: CardFault::of_answer(spanned.answer),
+            done: spanned.done as u64,
+            window: CardWindowReport {
+                lookups: window.lookups,
+                fills: window.fills,
+            },
+            cache: CardCacheReport::of_report(cache),
         }
     }
 }

@@ -1,18 +1,19 @@
 // A window is opened, and closed again.
 ghost use Rattle.std.specs.Prelude.{◌≡◌, [], cond, is_ok, length, replicate};
-ghost use Rattle.memory.specs.Reach.{OnlyRead};
 ghost use Rattle.card_c.specs.Setup.{meaning_of, layout_by};
-ghost use Rattle.card_c.specs.Called.{called, called_by, card_called, board_after};
+ghost use Rattle.card_c.specs.Called.{called, AnsweredUnder, AnsweredOver, AnsweredBy, CardAnswered, board_after};
+ghost use Rattle.card_c.specs.Bytes.{KeptAt, BytesKept};
 
-use crate::answer::{CardAnswer, CardRefusal};
-use crate::registers::armed_mapping;
-use crate::setup::{CardSetup, Choices, Format, MappingType};
+use crate::answer::CardAnswer;
+use crate::lent::check_memory;
+use crate::registers::armed_by;
+use crate::setup::{CachePlace, CardSetup, Choices, Format, MappingType};
+use cache::Cache;
 use checked::CheckByte;
 use colour::Colour;
 use direct::Direct;
 use mapping::Mapping;
-use memory::{ByteMemory, LineFormat, Memory};
-use opening::check_opening;
+use memory::{ByteMemory, LineFormat};
 use plain::CellsAlone;
 use stride::Stride;
 use transpose::Transpose;
@@ -20,67 +21,100 @@ use transpose::Transpose;
 // Says whether a window opens over the bytes. The board is what the opening takes notes on: a byte for each whole page.
 #[unsafe(no_mangle)]
 pub extern "C" fn card_check(setup: CardSetup, bytes: &mut [u8], board: &mut [u8]) -> CardAnswer
-    ensures answer { result ≡ card_called setup bytes.old (length board.old) [] }
-    ensures bytes { bytes.new ≡ bytes.old }
+    ensures answer { CardAnswered setup bytes.old (length board.old) [] result }
+    ensures bytes { BytesKept setup bytes.old bytes.new }
     ensures board { board.new ≡ board_after setup board.old }
 {
-    let Choices { mapping, format } = match setup.choices() {
+    let choices = match setup.choices() {
         Ok(choices) => choices,
         Err(refusal) => return CardAnswer::refused(refusal),
     };
     let registers = &setup.registers;
-    match mapping {
-        MappingType::Direct => check_by::<Direct>(format, registers, bytes, board),
-        MappingType::Colour => check_by::<Colour>(format, registers, bytes, board),
-        MappingType::Stride => check_by::<Stride>(format, registers, bytes, board),
-        MappingType::Transpose => check_by::<Transpose>(format, registers, bytes, board),
+    match choices.mapping {
+        MappingType::Direct => check_by::<Direct>(choices, registers, bytes, board),
+        MappingType::Colour => check_by::<Colour>(choices, registers, bytes, board),
+        MappingType::Stride => check_by::<Stride>(choices, registers, bytes, board),
+        MappingType::Transpose => check_by::<Transpose>(choices, registers, bytes, board),
     }
 }
 
 fn check_by<P: Mapping>(
-    format: Format,
+    choices: Choices,
     registers: &[u64; 5],
     bytes: &mut [u8],
     board: &mut [u8],
 ) -> CardAnswer
-    ensures answer { result ≡ called_by (layout_by P.Registers.rules registers.now) (length board.old) [] (meaning_of format bytes.old) }
-    ensures bytes { bytes.new ≡ bytes.old }
+    ensures answer { AnsweredBy choices.cache (layout_by P.Registers.rules registers.now) (length board.old) [] (meaning_of choices.format bytes.old) result }
+    ensures bytes { KeptAt choices.cache bytes.old bytes.new }
     ensures board { board.new ≡ cond (is_ok (layout_by P.Registers.rules registers.now)) (replicate (length board.old) 0) board.old }
 {
-    match format {
-        Format::Plain => check_bytes::<P, CellsAlone>(registers, bytes, board),
-        Format::Checked => check_bytes::<P, CheckByte>(registers, bytes, board),
+    let cache = choices.cache;
+    match choices.format {
+        Format::Plain => check_bytes::<P, CellsAlone>(cache, registers, bytes, board),
+        Format::Checked => check_bytes::<P, CheckByte>(cache, registers, bytes, board),
     }
 }
 
 fn check_bytes<P: Mapping, F: LineFormat>(
+    cache: CachePlace,
     registers: &[u64; 5],
     bytes: &mut [u8],
     board: &mut [u8],
 ) -> CardAnswer
-    ensures answer { result ≡ called_by (layout_by P.Registers.rules registers.now) (length board.old) [] (F.meaning bytes.old) }
-    ensures bytes { bytes.new ≡ bytes.old }
+    ensures answer { AnsweredBy cache (layout_by P.Registers.rules registers.now) (length board.old) [] (F.meaning bytes.old) result }
+    ensures bytes { KeptAt cache bytes.old bytes.new }
     ensures board { board.new ≡ cond (is_ok (layout_by P.Registers.rules registers.now)) (replicate (length board.old) 0) board.old }
 {
-    match armed_mapping::<P>(registers) {
-        Ok(mapping) => {
-            let mut below = ByteMemory::<F>::new(bytes);
-            check_memory(&mapping, &mut below, board)
-        }
-        Err(refusal) => CardAnswer::refused(refusal),
+    let set = match armed_by::<P>(registers) {
+        Ok(set) => set,
+        Err(refusal) => return CardAnswer::refused(refusal),
+    };
+    match cache {
+        CachePlace::Absent => check_bare::<P, F>(&set.into_mapping(), bytes, board),
+        CachePlace::Under => check_under::<P, F>(&set.into_mapping(), bytes, board),
+        CachePlace::Over => check_over::<P, F>(&set.into_mapping(), bytes, board),
     }
 }
 
-#[tactic(auto, unfolding(span::specs::Span::ended))]
-fn check_memory<P: Mapping, M: Memory>(mapping: &P, below: &mut M, board: &mut [u8]) -> CardAnswer
-    requires armed { P.Mapping.armed mapping.now }
-    requires coherent { M.Memory.coherent below.old }
-    ensures answer { result ≡ called (P.Mapping.meaning mapping.now) (length board.old) [] (M.Memory.meaning below.old) }
+fn check_bare<P: Mapping, F: LineFormat>(
+    mapping: &P,
+    bytes: &mut [u8],
+    board: &mut [u8],
+) -> CardAnswer
+    requires { P.Mapping.armed mapping.now }
+    ensures answer { result ≡ called (P.Mapping.meaning mapping.now) (length board.old) [] (F.meaning bytes.old) }
+    ensures bytes { bytes.new ≡ bytes.old }
     ensures board { board.new ≡ replicate (length board.old) 0 }
-    ensures reads { OnlyRead M.Memory.step below.old below.new }
 {
-    match check_opening(mapping, below, board) {
-        Ok(()) => CardAnswer::refused(CardRefusal::none()),
-        Err(refusal) => CardAnswer::refused(CardRefusal::of_opening(refusal)),
-    }
+    let mut below = ByteMemory::<F>::new(bytes);
+    check_memory(mapping, &mut below, board)
+}
+
+// Through a cache below the window.
+fn check_under<P: Mapping, F: LineFormat>(
+    mapping: &P,
+    bytes: &mut [u8],
+    board: &mut [u8],
+) -> CardAnswer
+    requires { P.Mapping.armed mapping.now }
+    ensures answer { AnsweredUnder (P.Mapping.meaning mapping.now) (length board.old) [] (F.meaning bytes.old) result }
+    ensures board { board.new ≡ replicate (length board.old) 0 }
+{
+    let mut below = Cache::new(ByteMemory::<F>::new(bytes));
+    let answer = check_memory(mapping, &mut below, board);
+    answer.with_cache(below.report())
+}
+
+// A cache over a window that nothing is asked of has nothing to do.
+fn check_over<P: Mapping, F: LineFormat>(
+    mapping: &P,
+    bytes: &mut [u8],
+    board: &mut [u8],
+) -> CardAnswer
+    requires { P.Mapping.armed mapping.now }
+    ensures answer { AnsweredOver (P.Mapping.meaning mapping.now) (length board.old) [] (F.meaning bytes.old) result }
+    ensures bytes { bytes.new ≡ bytes.old }
+    ensures board { board.new ≡ replicate (length board.old) 0 }
+{
+    check_bare::<P, F>(mapping, bytes, board)
 }

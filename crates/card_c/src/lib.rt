@@ -4,6 +4,8 @@
 
 mod answer;
 mod check;
+mod lent;
+mod over;
 mod read;
 mod registers;
 mod setup;

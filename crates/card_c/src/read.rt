@@ -1,25 +1,25 @@
 // A window is opened, a span of it is read, and it is closed.
 ghost use Rattle.std.specs.Prelude.{◌≡◌, cond, is_ok, length, replicate};
-ghost use Rattle.memory.specs.Reach.{Reached};
+ghost use Rattle.memory.specs.Up.{cells_up};
 ghost use Rattle.page_table.specs.Walk.{windowed};
 ghost use Rattle.span.specs.Runs.{reads_of};
 ghost use Rattle.span.specs.Span.{filled};
 ghost use Rattle.card_c.specs.Setup.{meaning_of, updated_of, layout_by};
-ghost use Rattle.card_c.specs.Called.{called, after, called_by, image_by, card_called, card_image, board_after};
-ghost use Rattle.card_c.specs.Bytes.{BytesBy, BytesLeft};
+ghost use Rattle.card_c.specs.Called.{called, after, AnsweredUnder, AnsweredBy, CardAnswered, image_by, card_image, board_after};
+ghost use Rattle.card_c.specs.Bytes.{BytesAfter, BytesBy, BytesLeft};
 
-use crate::answer::{CardAnswer, CardRefusal};
-use crate::registers::armed_mapping;
-use crate::setup::{CardSetup, Choices, Format, MappingType};
+use crate::answer::CardAnswer;
+use crate::lent::read_memory;
+use crate::over::read_over;
+use crate::registers::armed_by;
+use crate::setup::{CachePlace, CardSetup, Choices, Format, MappingType};
+use cache::Cache;
 use checked::CheckByte;
 use colour::Colour;
 use direct::Direct;
-use mapping::{Mapping, WindowAddress};
-use memory::{ByteMemory, LineFormat, Memory};
-use opening::check_opening;
-use page_table::Tlb;
+use mapping::Mapping;
+use memory::{ByteMemory, LineFormat};
 use plain::CellsAlone;
-use span::read_span;
 use stride::Stride;
 use transpose::Transpose;
 
@@ -32,92 +32,105 @@ pub extern "C" fn card_read(
     address: u64,
     buffer: &mut [u8],
 ) -> CardAnswer
-    ensures answer { result ≡ card_called setup bytes.old (length board.old) (reads_of address buffer.old) }
+    ensures answer { CardAnswered setup bytes.old (length board.old) (reads_of address buffer.old) result }
     ensures buffer { buffer.new ≡ filled (card_image setup bytes.old) address result.done buffer.old }
     ensures bytes { BytesLeft setup bytes.old (length board.old) (reads_of address buffer.old) bytes.new }
     ensures board { board.new ≡ board_after setup board.old }
 {
-    let Choices { mapping, format } = match setup.choices() {
+    let choices = match setup.choices() {
         Ok(choices) => choices,
         Err(refusal) => return CardAnswer::refused(refusal),
     };
     let registers = &setup.registers;
-    match mapping {
-        MappingType::Direct => {
-            read_by::<Direct>(format, registers, bytes, board, address, buffer)
-        }
-        MappingType::Colour => {
-            read_by::<Colour>(format, registers, bytes, board, address, buffer)
-        }
-        MappingType::Stride => {
-            read_by::<Stride>(format, registers, bytes, board, address, buffer)
-        }
-        MappingType::Transpose => {
-            read_by::<Transpose>(format, registers, bytes, board, address, buffer)
-        }
+    match choices.mapping {
+        MappingType::Direct => read_by::<Direct>(choices, registers, bytes, board, address, buffer),
+        MappingType::Colour => read_by::<Colour>(choices, registers, bytes, board, address, buffer),
+        MappingType::Stride => read_by::<Stride>(choices, registers, bytes, board, address, buffer),
+        MappingType::Transpose => read_by::<Transpose>(
+            choices, registers, bytes, board, address, buffer,
+        ),
     }
 }
 
 fn read_by<P: Mapping>(
-    format: Format,
+    choices: Choices,
     registers: &[u64; 5],
     bytes: &mut [u8],
     board: &mut [u8],
     address: u64,
     buffer: &mut [u8],
 ) -> CardAnswer
-    ensures answer { result ≡ called_by (layout_by P.Registers.rules registers.now) (length board.old) (reads_of address buffer.old) (meaning_of format bytes.old) }
-    ensures buffer { buffer.new ≡ filled (image_by (layout_by P.Registers.rules registers.now) (meaning_of format bytes.old)) address result.done buffer.old }
-    ensures bytes { BytesBy (meaning_of format) (updated_of format) (layout_by P.Registers.rules registers.now) (length board.old) (reads_of address buffer.old) bytes.old bytes.new }
+    ensures answer { AnsweredBy choices.cache (layout_by P.Registers.rules registers.now) (length board.old) (reads_of address buffer.old) (meaning_of choices.format bytes.old) result }
+    ensures buffer { buffer.new ≡ filled (image_by choices.cache (layout_by P.Registers.rules registers.now) (meaning_of choices.format bytes.old)) address result.done buffer.old }
+    ensures bytes { BytesBy choices.cache (meaning_of choices.format) (updated_of choices.format) (layout_by P.Registers.rules registers.now) (length board.old) (reads_of address buffer.old) bytes.old bytes.new }
     ensures board { board.new ≡ cond (is_ok (layout_by P.Registers.rules registers.now)) (replicate (length board.old) 0) board.old }
 {
-    match format {
-        Format::Plain => read_bytes::<P, CellsAlone>(registers, bytes, board, address, buffer),
-        Format::Checked => read_bytes::<P, CheckByte>(registers, bytes, board, address, buffer),
+    let cache = choices.cache;
+    match choices.format {
+        Format::Plain => read_bytes::<P, CellsAlone>(
+            cache, registers, bytes, board, address, buffer,
+        ),
+        Format::Checked => read_bytes::<P, CheckByte>(
+            cache, registers, bytes, board, address, buffer,
+        ),
     }
 }
 
 fn read_bytes<P: Mapping, F: LineFormat>(
+    cache: CachePlace,
     registers: &[u64; 5],
     bytes: &mut [u8],
     board: &mut [u8],
     address: u64,
     buffer: &mut [u8],
 ) -> CardAnswer
-    ensures answer { result ≡ called_by (layout_by P.Registers.rules registers.now) (length board.old) (reads_of address buffer.old) (F.meaning bytes.old) }
-    ensures buffer { buffer.new ≡ filled (image_by (layout_by P.Registers.rules registers.now) (F.meaning bytes.old)) address result.done buffer.old }
-    ensures bytes { BytesBy F.meaning F.updated (layout_by P.Registers.rules registers.now) (length board.old) (reads_of address buffer.old) bytes.old bytes.new }
+    ensures answer { AnsweredBy cache (layout_by P.Registers.rules registers.now) (length board.old) (reads_of address buffer.old) (F.meaning bytes.old) result }
+    ensures buffer { buffer.new ≡ filled (image_by cache (layout_by P.Registers.rules registers.now) (F.meaning bytes.old)) address result.done buffer.old }
+    ensures bytes { BytesBy cache F.meaning F.updated (layout_by P.Registers.rules registers.now) (length board.old) (reads_of address buffer.old) bytes.old bytes.new }
     ensures board { board.new ≡ cond (is_ok (layout_by P.Registers.rules registers.now)) (replicate (length board.old) 0) board.old }
 {
-    match armed_mapping::<P>(registers) {
-        Ok(mapping) => {
-            let mut below = ByteMemory::<F>::new(bytes);
-            read_memory(&mapping, &mut below, board, address, buffer)
-        }
-        Err(refusal) => CardAnswer::refused(refusal),
+    let set = match armed_by::<P>(registers) {
+        Ok(set) => set,
+        Err(refusal) => return CardAnswer::refused(refusal),
+    };
+    match cache {
+        CachePlace::Absent => read_bare::<P, F>(&set.into_mapping(), bytes, board, address, buffer),
+        CachePlace::Under => read_under::<P, F>(&set.into_mapping(), bytes, board, address, buffer),
+        CachePlace::Over => read_over(set, ByteMemory::<F>::new(bytes), board, address, buffer),
     }
 }
 
-fn read_memory<P: Mapping, M: Memory>(
+fn read_bare<P: Mapping, F: LineFormat>(
     mapping: &P,
-    below: &mut M,
+    bytes: &mut [u8],
     board: &mut [u8],
     address: u64,
     buffer: &mut [u8],
 ) -> CardAnswer
-    requires armed { P.Mapping.armed mapping.now }
-    requires coherent { M.Memory.coherent below.old }
-    ensures answer { result ≡ called (P.Mapping.meaning mapping.now) (length board.old) (reads_of address buffer.old) (M.Memory.meaning below.old) }
-    ensures buffer { buffer.new ≡ filled (windowed (P.Mapping.meaning mapping.now) (M.Memory.meaning below.old)) address result.done buffer.old }
-    ensures meaning { M.Memory.meaning below.new ≡ after (P.Mapping.meaning mapping.now) (length board.old) (reads_of address buffer.old) (M.Memory.meaning below.old) }
+    requires { P.Mapping.armed mapping.now }
+    ensures answer { result ≡ called (P.Mapping.meaning mapping.now) (length board.old) (reads_of address buffer.old) (F.meaning bytes.old) }
+    ensures buffer { buffer.new ≡ filled (windowed (P.Mapping.meaning mapping.now) (F.meaning bytes.old)) address result.done buffer.old }
+    ensures bytes { BytesAfter F.meaning F.updated (after (P.Mapping.meaning mapping.now) (length board.old) (reads_of address buffer.old) (F.meaning bytes.old)) bytes.old bytes.new }
     ensures board { board.new ≡ replicate (length board.old) 0 }
-    ensures coherent { M.Memory.coherent below.new }
-    ensures reached { Reached M.Memory.step below.old below.new }
 {
-    if let Err(refusal) = check_opening(mapping, below, board) {
-        return CardAnswer::refused(CardRefusal::of_opening(refusal));
-    }
-    let mut tlb = Tlb::new();
-    let spanned = read_span(mapping, below, &mut tlb, WindowAddress(address), buffer);
-    CardAnswer::of_span(spanned, &tlb)
+    let mut below = ByteMemory::<F>::new(bytes);
+    read_memory(mapping, &mut below, board, address, buffer)
+}
+
+// Through a cache below the window.
+fn read_under<P: Mapping, F: LineFormat>(
+    mapping: &P,
+    bytes: &mut [u8],
+    board: &mut [u8],
+    address: u64,
+    buffer: &mut [u8],
+) -> CardAnswer
+    requires { P.Mapping.armed mapping.now }
+    ensures answer { AnsweredUnder (P.Mapping.meaning mapping.now) (length board.old) (reads_of address buffer.old) (F.meaning bytes.old) result }
+    ensures buffer { buffer.new ≡ filled (windowed (P.Mapping.meaning mapping.now) (cells_up (F.meaning bytes.old))) address result.done buffer.old }
+    ensures board { board.new ≡ replicate (length board.old) 0 }
+{
+    let mut below = Cache::new(ByteMemory::<F>::new(bytes));
+    let answer = read_memory(mapping, &mut below, board, address, buffer);
+    answer.with_cache(below.report())
 }

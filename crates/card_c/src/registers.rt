@@ -1,20 +1,20 @@
-// The mapping of a caller's register values.
+// The set of a caller's register values.
 ghost use Rattle.std.specs.Prelude.{◌≡◌, ◌≤◌, take, IfOk};
 ghost use Rattle.std.specs.Result.{result_map_both};
 ghost use Rattle.card_c.specs.Setup.{offered, layout_by};
 
 use crate::answer::CardRefusal;
 use card::{RegisterWrite, armed_set};
-use mapping::Mapping;
+use mapping::{ArmedSet, Mapping};
 
-// The mapping that is armed with these values, or why it is not.
-pub(crate) fn armed_mapping<P: Mapping>(registers: &[u64; 5]) -> Result<P, CardRefusal>
-    ensures layout { result_map_both P.Mapping.meaning (λ e. e) result ≡ layout_by P.Registers.rules registers.now }
-    ensures armed { IfOk result P.Mapping.armed }
+// The set that is armed with these values, or why it is not.
+pub(crate) fn armed_by<P: Mapping>(registers: &[u64; 5]) -> Result<ArmedSet<P>, CardRefusal>
+    ensures layout { result_map_both (λ set. P.Mapping.meaning set.mapping) (λ e. e) result ≡ layout_by P.Registers.rules registers.now }
+    ensures armed { IfOk result (λ set. P.Mapping.armed set.mapping) }
 {
     let (writes, count) = offered(registers);
     match armed_set::<P>(&writes[..count]) {
-        Ok(set) => Ok(set.into_mapping()),
+        Ok(set) => Ok(set),
         Err(refusal) => Err(CardRefusal::of_set_up(refusal)),
     }
 }

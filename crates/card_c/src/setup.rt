@@ -1,6 +1,6 @@
 // What a caller chooses. Any numbers may come; those that choose nothing are refused.
 ghost use Rattle.std.specs.Prelude.{◌≡◌};
-ghost use Rattle.card_c.specs.Setup.{mapping_type, line_format, choices};
+ghost use Rattle.card_c.specs.Setup.{mapping_type, line_format, cache_place, choices};
 
 use crate::answer::CardRefusal;
 
@@ -12,6 +12,8 @@ pub struct CardSetup {
     pub mapping: u64,
     // how bytes hold the lines
     pub format: u64,
+    // where a cache stands
+    pub cache: u64,
     // the values of the mapping's registers, by their numbers; 0 where it has none
     pub registers: [u64; 5],
 }
@@ -30,20 +32,31 @@ pub(crate) enum Format {
     Checked,
 }
 
+// Where a cache stands, by the window.
+#[derive(Clone, Copy)]
+pub(crate) enum CachePlace {
+    Absent,
+    Under,
+    Over,
+}
+
 #[derive(Clone, Copy)]
 pub(crate) struct Choices {
     pub mapping: MappingType,
     pub format: Format,
+    pub cache: CachePlace,
 }
 
 impl CardSetup {
     // What the numbers choose, or the first that chooses nothing.
     pub(crate) fn choices(&self) -> Result<Choices, CardRefusal>
-        ensures { result ≡ choices self.now.mapping self.now.format }
+        ensures { result ≡ choices self.now.mapping self.now.format self.now.cache }
     {
-        let mapping = mapping_type(self.mapping).ok_or(CardRefusal::choice(31))?;
-        let format = line_format(self.format).ok_or(CardRefusal::choice(32))?;
-        Ok(Choices { mapping, format })
+        Ok(Choices {
+            mapping: mapping_type(self.mapping).ok_or(CardRefusal::choice(31))?,
+            format: line_format(self.format).ok_or(CardRefusal::choice(32))?,
+            cache: cache_place(self.cache).ok_or(CardRefusal::choice(33))?,
+        })
     }
 }
 
@@ -65,6 +78,17 @@ fn line_format(number: u64) -> Option<Format>
     match number {
         1 => Some(Format::Plain),
         2 => Some(Format::Checked),
+        _ => None,
+    }
+}
+
+fn cache_place(number: u64) -> Option<CachePlace>
+    ensures { result ≡ cache_place number }
+{
+    match number {
+        0 => Some(CachePlace::Absent),
+        1 => Some(CachePlace::Under),
+        2 => Some(CachePlace::Over),
         _ => None,
     }
 }

@@ -1,25 +1,24 @@
 // A window is opened, a span of it is written, and it is closed.
 ghost use Rattle.std.specs.Prelude.{◌≡◌, cond, is_ok, length, replicate, take};
 ghost use Rattle.memory.specs.Calls.{stored};
-ghost use Rattle.memory.specs.Reach.{Reached};
 ghost use Rattle.page_table.specs.Walk.{windowed};
 ghost use Rattle.span.specs.Runs.{writes_of};
 ghost use Rattle.card_c.specs.Setup.{meaning_of, updated_of, layout_by};
-ghost use Rattle.card_c.specs.Called.{called, after, called_by, image_by, card_called, card_image, board_after};
-ghost use Rattle.card_c.specs.Bytes.{BytesBy, BytesLeft};
+ghost use Rattle.card_c.specs.Called.{called, after, AnsweredUnder, AnsweredBy, CardAnswered, board_after};
+ghost use Rattle.card_c.specs.Bytes.{BytesAfter, BytesBy, BytesLeft, WrittenBy, CardWritten};
 
-use crate::answer::{CardAnswer, CardRefusal};
-use crate::registers::armed_mapping;
-use crate::setup::{CardSetup, Choices, Format, MappingType};
+use crate::answer::CardAnswer;
+use crate::lent::write_memory;
+use crate::over::write_over;
+use crate::registers::armed_by;
+use crate::setup::{CachePlace, CardSetup, Choices, Format, MappingType};
+use cache::Cache;
 use checked::CheckByte;
 use colour::Colour;
 use direct::Direct;
-use mapping::{Mapping, WindowAddress};
-use memory::{ByteMemory, LineFormat, Memory};
-use opening::check_opening;
-use page_table::Tlb;
+use mapping::Mapping;
+use memory::{ByteMemory, LineFormat};
 use plain::CellsAlone;
-use span::write_span;
 use stride::Stride;
 use transpose::Transpose;
 
@@ -32,92 +31,122 @@ pub extern "C" fn card_write(
     address: u64,
     content: &[u8],
 ) -> CardAnswer
-    ensures answer { result ≡ card_called setup bytes.old (length board.old) (writes_of address content.now) }
-    ensures image { card_image setup bytes.new ≡ stored (card_image setup bytes.old) address (take result.done content.now) }
+    ensures answer { CardAnswered setup bytes.old (length board.old) (writes_of address content.now) result }
+    ensures written { CardWritten setup bytes.old bytes.new address (take result.done content.now) }
     ensures bytes { BytesLeft setup bytes.old (length board.old) (writes_of address content.now) bytes.new }
     ensures board { board.new ≡ board_after setup board.old }
 {
-    let Choices { mapping, format } = match setup.choices() {
+    let choices = match setup.choices() {
         Ok(choices) => choices,
         Err(refusal) => return CardAnswer::refused(refusal),
     };
     let registers = &setup.registers;
-    match mapping {
-        MappingType::Direct => {
-            write_by::<Direct>(format, registers, bytes, board, address, content)
-        }
-        MappingType::Colour => {
-            write_by::<Colour>(format, registers, bytes, board, address, content)
-        }
-        MappingType::Stride => {
-            write_by::<Stride>(format, registers, bytes, board, address, content)
-        }
-        MappingType::Transpose => {
-            write_by::<Transpose>(format, registers, bytes, board, address, content)
-        }
+    match choices.mapping {
+        MappingType::Direct => write_by::<Direct>(
+            choices, registers, bytes, board, address, content,
+        ),
+        MappingType::Colour => write_by::<Colour>(
+            choices, registers, bytes, board, address, content,
+        ),
+        MappingType::Stride => write_by::<Stride>(
+            choices, registers, bytes, board, address, content,
+        ),
+        MappingType::Transpose => write_by::<Transpose>(
+            choices, registers, bytes, board, address, content,
+        ),
     }
 }
 
 fn write_by<P: Mapping>(
-    format: Format,
+    choices: Choices,
     registers: &[u64; 5],
     bytes: &mut [u8],
     board: &mut [u8],
     address: u64,
     content: &[u8],
 ) -> CardAnswer
-    ensures answer { result ≡ called_by (layout_by P.Registers.rules registers.now) (length board.old) (writes_of address content.now) (meaning_of format bytes.old) }
-    ensures image { image_by (layout_by P.Registers.rules registers.now) (meaning_of format bytes.new) ≡ stored (image_by (layout_by P.Registers.rules registers.now) (meaning_of format bytes.old)) address (take result.done content.now) }
-    ensures bytes { BytesBy (meaning_of format) (updated_of format) (layout_by P.Registers.rules registers.now) (length board.old) (writes_of address content.now) bytes.old bytes.new }
+    ensures answer { AnsweredBy choices.cache (layout_by P.Registers.rules registers.now) (length board.old) (writes_of address content.now) (meaning_of choices.format bytes.old) result }
+    ensures written { WrittenBy choices.cache (layout_by P.Registers.rules registers.now) (meaning_of choices.format bytes.old) (meaning_of choices.format bytes.new) address (take result.done content.now) }
+    ensures bytes { BytesBy choices.cache (meaning_of choices.format) (updated_of choices.format) (layout_by P.Registers.rules registers.now) (length board.old) (writes_of address content.now) bytes.old bytes.new }
     ensures board { board.new ≡ cond (is_ok (layout_by P.Registers.rules registers.now)) (replicate (length board.old) 0) board.old }
 {
-    match format {
-        Format::Plain => write_bytes::<P, CellsAlone>(registers, bytes, board, address, content),
-        Format::Checked => write_bytes::<P, CheckByte>(registers, bytes, board, address, content),
+    let cache = choices.cache;
+    match choices.format {
+        Format::Plain => write_bytes::<P, CellsAlone>(
+            cache, registers, bytes, board, address, content,
+        ),
+        Format::Checked => write_bytes::<P, CheckByte>(
+            cache, registers, bytes, board, address, content,
+        ),
     }
 }
 
 fn write_bytes<P: Mapping, F: LineFormat>(
+    cache: CachePlace,
     registers: &[u64; 5],
     bytes: &mut [u8],
     board: &mut [u8],
     address: u64,
     content: &[u8],
 ) -> CardAnswer
-    ensures answer { result ≡ called_by (layout_by P.Registers.rules registers.now) (length board.old) (writes_of address content.now) (F.meaning bytes.old) }
-    ensures image { image_by (layout_by P.Registers.rules registers.now) (F.meaning bytes.new) ≡ stored (image_by (layout_by P.Registers.rules registers.now) (F.meaning bytes.old)) address (take result.done content.now) }
-    ensures bytes { BytesBy F.meaning F.updated (layout_by P.Registers.rules registers.now) (length board.old) (writes_of address content.now) bytes.old bytes.new }
+    ensures answer { AnsweredBy cache (layout_by P.Registers.rules registers.now) (length board.old) (writes_of address content.now) (F.meaning bytes.old) result }
+    ensures written { WrittenBy cache (layout_by P.Registers.rules registers.now) (F.meaning bytes.old) (F.meaning bytes.new) address (take result.done content.now) }
+    ensures bytes { BytesBy cache F.meaning F.updated (layout_by P.Registers.rules registers.now) (length board.old) (writes_of address content.now) bytes.old bytes.new }
     ensures board { board.new ≡ cond (is_ok (layout_by P.Registers.rules registers.now)) (replicate (length board.old) 0) board.old }
 {
-    match armed_mapping::<P>(registers) {
-        Ok(mapping) => {
-            let mut below = ByteMemory::<F>::new(bytes);
-            write_memory(&mapping, &mut below, board, address, content)
-        }
-        Err(refusal) => CardAnswer::refused(refusal),
+    let set = match armed_by::<P>(registers) {
+        Ok(set) => set,
+        Err(refusal) => return CardAnswer::refused(refusal),
+    };
+    match cache {
+        CachePlace::Absent => write_bare::<P, F>(
+            &set.into_mapping(),
+            bytes,
+            board,
+            address,
+            content,
+        ),
+        CachePlace::Under => write_under::<P, F>(
+            &set.into_mapping(),
+            bytes,
+            board,
+            address,
+            content,
+        ),
+        CachePlace::Over => write_over(set, ByteMemory::<F>::new(bytes), board, address, content),
     }
 }
 
-fn write_memory<P: Mapping, M: Memory>(
+fn write_bare<P: Mapping, F: LineFormat>(
     mapping: &P,
-    below: &mut M,
+    bytes: &mut [u8],
     board: &mut [u8],
     address: u64,
     content: &[u8],
 ) -> CardAnswer
-    requires armed { P.Mapping.armed mapping.now }
-    requires coherent { M.Memory.coherent below.old }
-    ensures answer { result ≡ called (P.Mapping.meaning mapping.now) (length board.old) (writes_of address content.now) (M.Memory.meaning below.old) }
-    ensures window { windowed (P.Mapping.meaning mapping.now) (M.Memory.meaning below.new) ≡ stored (windowed (P.Mapping.meaning mapping.now) (M.Memory.meaning below.old)) address (take result.done content.now) }
-    ensures meaning { M.Memory.meaning below.new ≡ after (P.Mapping.meaning mapping.now) (length board.old) (writes_of address content.now) (M.Memory.meaning below.old) }
+    requires { P.Mapping.armed mapping.now }
+    ensures answer { result ≡ called (P.Mapping.meaning mapping.now) (length board.old) (writes_of address content.now) (F.meaning bytes.old) }
+    ensures written { windowed (P.Mapping.meaning mapping.now) (F.meaning bytes.new) ≡ stored (windowed (P.Mapping.meaning mapping.now) (F.meaning bytes.old)) address (take result.done content.now) }
+    ensures bytes { BytesAfter F.meaning F.updated (after (P.Mapping.meaning mapping.now) (length board.old) (writes_of address content.now) (F.meaning bytes.old)) bytes.old bytes.new }
     ensures board { board.new ≡ replicate (length board.old) 0 }
-    ensures coherent { M.Memory.coherent below.new }
-    ensures reached { Reached M.Memory.step below.old below.new }
 {
-    if let Err(refusal) = check_opening(mapping, below, board) {
-        return CardAnswer::refused(CardRefusal::of_opening(refusal));
-    }
-    let mut tlb = Tlb::new();
-    let spanned = write_span(mapping, below, &mut tlb, WindowAddress(address), content);
-    CardAnswer::of_span(spanned, &tlb)
+    let mut below = ByteMemory::<F>::new(bytes);
+    write_memory(mapping, &mut below, board, address, content)
+}
+
+// Through a cache below the window.
+fn write_under<P: Mapping, F: LineFormat>(
+    mapping: &P,
+    bytes: &mut [u8],
+    board: &mut [u8],
+    address: u64,
+    content: &[u8],
+) -> CardAnswer
+    requires { P.Mapping.armed mapping.now }
+    ensures answer { AnsweredUnder (P.Mapping.meaning mapping.now) (length board.old) (writes_of address content.now) (F.meaning bytes.old) result }
+    ensures board { board.new ≡ replicate (length board.old) 0 }
+{
+    let mut below = Cache::new(ByteMemory::<F>::new(bytes));
+    let answer = write_memory(mapping, &mut below, board, address, content);
+    answer.with_cache(below.report())
 }

@@ -2,7 +2,7 @@
 use Rattle.std.proofs.Common.{ap}
 use Rattle.memory.proofs.Reaches.{only_reached, reached_more}
 use Rattle.card_c.proofs.Fillings.{filled_nothing}
-use Rattle.card_c.proofs.read.read_memory.Goals as goal
+use Rattle.card_c.proofs.lent.read_memory.Goals as goal
 
 pub returns-in-Err-clause-buffer : goal.returns-in-Err-clause-buffer
 returns-in-Err-clause-buffer g c = filled_nothing _ _ _ c.args.buffer.now (ap (λ r. r.done) c.refused.ensures)

@@ -3,7 +3,7 @@ use Rattle.std.proofs.Common.{ap, ◌∙◌}
 use Rattle.memory.proofs.Reaches.{only_reached, reached_more}
 use Rattle.page_table.specs.Walk.{windowed}
 use Rattle.card_c.proofs.Fillings.{stored_nothing}
-use Rattle.card_c.proofs.write.write_memory.Goals as goal
+use Rattle.card_c.proofs.lent.write_memory.Goals as goal
 
 pub returns-in-Err-clause-window : goal.returns-in-Err-clause-window
 returns-in-Err-clause-window g c =
