@@ -1,5 +1,5 @@
 -- A cache over a window, asked and closed. Assumes nothing.
-use Rattle.std.proofs.Common.{◌≡◌, ℕ, true, List, [], Ok, Err, Result, is_ok, refl, sym, ap, ◌∙◌, subst}
+use Rattle.std.proofs.Common.{◌≡◌, ℕ, List, [], Ok, Err, Result, is_ok, refl, sym, ap, ◌∙◌, subst}
 use Rattle.memory.specs.declared.fault.Fault.{Fault}
 use Rattle.memory.specs.Meaning.{Meaning}
 use Rattle.memory.specs.Reach.{Call, Reached, Step, after_calls}
@@ -22,7 +22,7 @@ use Rattle.span.specs.Span.{Ended, ended, cache_answer}
 use Rattle.card_c.specs.declared.answer.CardAnswer.{CardAnswer}
 use Rattle.card_c.specs.declared.answer.CardWindowReport.{CardWindowReport}
 use Rattle.card_c.specs.Answer.{opening_refused, refused, cached_answer}
-use Rattle.card_c.specs.Called.{opened, called, called_over, opened_over, CountedOver, AnsweredOver}
+use Rattle.card_c.specs.Called.{opened, called, opened_over, CountedOver, AnsweredOver}
 use Rattle.card_c.proofs.Counted.{answered_over}
 
 pub refused_over : (l : Layout) (board : ℕ) (cs : List Call) (m : Meaning) (e : OpeningRefusal) (r : CardAnswer) → check_opening (table_of l) m board ≡ Err e → r ≡ refused (opening_refused e) → AnsweredOver l board cs m r

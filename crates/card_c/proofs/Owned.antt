@@ -1,5 +1,5 @@
 -- What a caller's bytes are once a memory over them was lent. Assumes nothing.
-use Rattle.std.proofs.Common.{◌≡◌, ℕ, List, [], ◌∷◌, refl, sym, ap, ◌∙◌, subst}
+use Rattle.std.proofs.Common.{◌≡◌, ℕ, List, [], ◌∷◌, refl, ap, ◌∙◌}
 use Rattle.std.specs.Borrow.{MutBor}
 use Rattle.memory.specs.Bytes.{Over}
 use Rattle.memory.specs.Meaning.{Meaning}

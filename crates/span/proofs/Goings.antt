@@ -1,5 +1,5 @@
 -- A span, some runs of which are made. Assumes nothing.
-use Rattle.std.proofs.Common.{◌≡◌, ℕ, suc, ◌+◌, ◌-◌, ◌*◌, ◌^◌, ◌<◌, ◌≤◌, min, List, ◌∷◌, length, take, drop, Ok, Err, Result, sym, refl, ap, ◌∙◌, add-zero, zero-add, add_assoc, arith}
+use Rattle.std.proofs.Common.{◌≡◌, ℕ, suc, ◌+◌, List, ◌∷◌, length, take, drop, Ok, Err, Result, sym, ap, ◌∙◌, add-zero, zero-add, add_assoc, arith}
 use Rattle.std.proofs.lemmas.List.{length-take-le}
 use Rattle.memory.specs.declared.fault.Fault.{Fault}
 use Rattle.memory.specs.Reach.{Call, cells_of}

@@ -1,5 +1,5 @@
 -- Assumes nothing.
-use Rattle.std.proofs.Common.{ap, sym, ◌∙◌, refl}
+use Rattle.std.proofs.Common.{ap, sym, ◌∙◌}
 use Rattle.window.specs.Report.{reported}
 use Rattle.card_c.specs.Answer.{refused}
 use Rattle.card_c.proofs.Fillings.{filled_nothing}

@@ -1,5 +1,5 @@
 -- What the cache reports is what it counted of the calls that the window made. Assumes nothing.
-use Rattle.std.proofs.Common.{ap, ◌∙◌, sym}
+use Rattle.std.proofs.Common.{ap, ◌∙◌}
 use Rattle.card_c.proofs.Counted.{counted_under, answered_under}
 use Rattle.card_c.proofs.read.read_under.Goals as goal
 

@@ -1,7 +1,7 @@
 -- Assumes nothing.
-use Rattle.std.proofs.Common.{◌≡◌, ℕ, ◌-◌, ◌+◌, ◌≤◌, suc, List, length, take, drop, Ok, Err, rules, arith, sym, ap, ◌∙◌, refl}
+use Rattle.std.proofs.Common.{◌≡◌, ◌-◌, ◌+◌, ◌≤◌, length, drop, rules, arith, sym, ap, ◌∙◌, refl}
 use Rattle.std.proofs.lemmas.List.{length-drop}
-use Rattle.memory.specs.Calls.{read_answer, delivered, bytes}
+use Rattle.memory.specs.Calls.{bytes}
 use Rattle.memory.proofs.Calls.{length_bytes}
 use Rattle.memory.specs.Reach.{Step}
 use Rattle.memory.specs.Up.{cells_up}

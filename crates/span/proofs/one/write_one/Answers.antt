@@ -1,5 +1,5 @@
 -- A run that is not taken changes nothing. Assumes nothing.
-use Rattle.std.proofs.Common.{◌≡◌, true, length, Err, sym, ◌∙◌, rules}
+use Rattle.std.proofs.Common.{◌≡◌, length, Err, sym, ◌∙◌, rules}
 use Rattle.memory.specs.Reach.{writing}
 use Rattle.memory.specs.Run.{check_run}
 use Rattle.memory.proofs.Calls.{written_refused}

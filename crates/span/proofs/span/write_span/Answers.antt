@@ -1,7 +1,7 @@
 -- Assumes nothing.
-use Rattle.std.proofs.Common.{◌≡◌, ℕ, ◌-◌, ◌+◌, ◌≤◌, suc, List, length, take, drop, Ok, Err, rules, arith, sym, ap, ◌∙◌, refl}
+use Rattle.std.proofs.Common.{◌≡◌, ◌-◌, ◌+◌, ◌≤◌, length, drop, rules, arith, sym, ap, ◌∙◌}
 use Rattle.std.proofs.lemmas.List.{length-drop, drop-drop}
-use Rattle.memory.specs.Calls.{stored, written}
+use Rattle.memory.specs.Calls.{stored}
 use Rattle.memory.proofs.Calls.{written_refused, written_accepted}
 use Rattle.memory.proofs.Reaches.{reached_none, reached_more}
 use Rattle.page_table.specs.Walk.{windowed}
