@@ -1,5 +1,6 @@
 #!/bin/sh
-# Builds the static library, and the examples in C and Rust over it; runs them, and compares what each prints with what is due.
+# Builds the static library, and the examples in C and Rust over it; runs them, and compares what each prints with what is due. Then
+# compares the library with the second model of model/ on random cards, by the crate for Rust.
 set -u
 cd "$(dirname "$0")/.." || exit 2
 work=$(mktemp -d) || exit 2
@@ -68,4 +69,11 @@ else
     failed=1
 fi
 shown 'prices in Rust' "$work/due" cargo run --quiet --manifest-path bindings/rust/Cargo.toml --example prices
+if cargo test --release --quiet --manifest-path bindings/rust/Cargo.toml >"$work/out" 2>&1; then
+    echo 'examples: ok, the library and the second model agree on random cards'
+else
+    echo 'examples: FAILED: the library and the second model:'
+    cat "$work/out"
+    failed=1
+fi
 exit "$failed"

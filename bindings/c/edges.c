@@ -9,7 +9,8 @@ static uint8_t bytes[2 * CARD_PAGE + 1];
 static uint8_t board[2];
 static int failed;
 
-static void due(const char *what, struct card_answer answer, uint64_t reason, uint64_t number, uint64_t cause, uint64_t place, uint64_t done) {
+static void due(const char *what, struct card_answer answer, uint64_t reason, uint64_t number, uint64_t cause, uint64_t place,
+                uint64_t done) {
     if (answer.refusal.reason == reason && answer.refusal.number == number && answer.fault.cause == cause && answer.fault.place == place &&
         answer.done == done) {
         return;

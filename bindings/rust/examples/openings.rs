@@ -63,7 +63,8 @@ fn main() -> Result<(), Box<dyn std::error::Error>> {
         });
         let lines = records / 32;
         let each = whole.saturating_sub(opening) / lines as u32;
-        println!("| {records} | {} | {opening:.1?} | {line:.1?} | {whole:.1?} | {lines} | {} ns |", records * RECORD / PAGE, each.as_nanos());
+        let (entries, each) = (records * RECORD / PAGE, each.as_nanos());
+        println!("| {records} | {entries} | {opening:.1?} | {line:.1?} | {whole:.1?} | {lines} | {each} ns |");
     }
     Ok(())
 }

@@ -114,7 +114,7 @@ pub struct Fault {
 
 #[derive(Clone, Copy, PartialEq, Eq, Debug)]
 pub enum Error {
-    /// No window opened. Of a card that was opened this says that a call changed its page table.
+    /// No window opened. A card that was opened does not meet this: its bytes are its own, and of the page table a call sets marks alone.
     Refused(Refusal),
     /// A run was refused.
     Faulted(Fault),
