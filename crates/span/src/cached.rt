@@ -5,9 +5,8 @@ ghost use Rattle.memory.specs.Reach.{Reached, Step};
 ghost use Rattle.memory.specs.Up.{cells_up};
 ghost use Rattle.cache_lines.specs.Lines.{sets_of};
 ghost use Rattle.cache.specs.State.{Standing};
-ghost use Rattle.cache_list.specs.Behind.{Behind, call_behind};
 ghost use Rattle.span.specs.Runs.{reads_of, writes_of};
-ghost use Rattle.span.specs.Span.{Ended, ended, filled, cache_answer};
+ghost use Rattle.span.specs.Span.{cache_behind, cache_ended, come_to, filled};
 
 use crate::runs::{run_count, run_size};
 use crate::span::Spanned;
@@ -16,7 +15,7 @@ use memory::Memory;
 
 pub fn read_cached<M: Memory>(cache: &mut Cache<M>, a: u64, buffer: &mut [u8]) -> Spanned
     requires { Standing (M.Memory.coherent cache.old.below) (M.Memory.meaning cache.old.below) (sets_of cache.old.lines) cache.old.counts }
-    ensures ended { ◌≡◌ {A = Ended Behind} (record { answer = result.answer; done = result.done; left = record { cells = M.Memory.meaning cache.new.below; state = record { sets = sets_of cache.new.lines; counts = cache.new.counts } } }) (ended cache_answer call_behind (reads_of a buffer.old) (record { cells = M.Memory.meaning cache.old.below; state = record { sets = sets_of cache.old.lines; counts = cache.old.counts } })) }
+    ensures ended { come_to result.answer result.done (cache_behind (M.Memory.meaning cache.new.below) (sets_of cache.new.lines) cache.new.counts) ≡ cache_ended (reads_of a buffer.old) (cache_behind (M.Memory.meaning cache.old.below) (sets_of cache.old.lines) cache.old.counts) }
     ensures buffer { buffer.new ≡ filled (cells_up (M.Memory.meaning cache.old.below)) a result.done buffer.old }
     ensures meaning { M.Memory.meaning cache.new.below ≡ M.Memory.meaning cache.old.below }
     ensures standing { Standing (M.Memory.coherent cache.new.below) (M.Memory.meaning cache.new.below) (sets_of cache.new.lines) cache.new.counts }
@@ -43,7 +42,7 @@ pub fn read_cached<M: Memory>(cache: &mut Cache<M>, a: u64, buffer: &mut [u8]) -
 
 pub fn write_cached<M: Memory>(cache: &mut Cache<M>, a: u64, bytes: &[u8]) -> Spanned
     requires { Standing (M.Memory.coherent cache.old.below) (M.Memory.meaning cache.old.below) (sets_of cache.old.lines) cache.old.counts }
-    ensures ended { ◌≡◌ {A = Ended Behind} (record { answer = result.answer; done = result.done; left = record { cells = M.Memory.meaning cache.new.below; state = record { sets = sets_of cache.new.lines; counts = cache.new.counts } } }) (ended cache_answer call_behind (writes_of a bytes.now) (record { cells = M.Memory.meaning cache.old.below; state = record { sets = sets_of cache.old.lines; counts = cache.old.counts } })) }
+    ensures ended { come_to result.answer result.done (cache_behind (M.Memory.meaning cache.new.below) (sets_of cache.new.lines) cache.new.counts) ≡ cache_ended (writes_of a bytes.now) (cache_behind (M.Memory.meaning cache.old.below) (sets_of cache.old.lines) cache.old.counts) }
     ensures cells { cells_up (M.Memory.meaning cache.new.below) ≡ stored (cells_up (M.Memory.meaning cache.old.below)) a (take result.done bytes.now) }
     ensures standing { Standing (M.Memory.coherent cache.new.below) (M.Memory.meaning cache.new.below) (sets_of cache.new.lines) cache.new.counts }
     ensures reached { Reached (Step M.Memory.meaning M.Memory.coherent M.Memory.step) cache.old.below cache.new.below }

@@ -4,7 +4,8 @@ ghost use Rattle.memory.specs.Calls.{read_answer, write_answer, delivered, writt
 ghost use Rattle.memory.specs.Reach.{reading, writing, Reached};
 ghost use Rattle.page_table.specs.Walk.{windowed};
 ghost use Rattle.page_table.specs.Ready.{Ready};
-ghost use Rattle.window_list.specs.Played.{Behind, call_behind};
+ghost use Rattle.window_list.specs.Played.{call_behind};
+ghost use Rattle.span.specs.Span.{behind};
 
 use mapping::{Mapping, WindowAddress};
 use memory::{Fault, Memory, check_run};
@@ -24,7 +25,7 @@ pub(crate) fn read_one<P: Mapping, M: Memory>(
     ensures answer { result ≡ read_answer (windowed (P.Mapping.meaning mapping.now) (M.Memory.meaning below.old)) a.0 (length buffer.old) }
     ensures buffer { buffer.new ≡ delivered (windowed (P.Mapping.meaning mapping.now) (M.Memory.meaning below.old)) a.0 buffer.old }
     ensures window { windowed (P.Mapping.meaning mapping.now) (M.Memory.meaning below.new) ≡ windowed (P.Mapping.meaning mapping.now) (M.Memory.meaning below.old) }
-    ensures behind { ◌≡◌ {A = Behind} (record { cells = M.Memory.meaning below.new; tlb = tlb.new }) (call_behind true (P.Mapping.meaning mapping.now) (record { cells = M.Memory.meaning below.old; tlb = tlb.old }) (reading a.0 buffer.old)) }
+    ensures behind { behind (M.Memory.meaning below.new) tlb.new ≡ call_behind true (P.Mapping.meaning mapping.now) (behind (M.Memory.meaning below.old) tlb.old) (reading a.0 buffer.old) }
     ensures coherent { M.Memory.coherent below.new }
     ensures reached { Reached M.Memory.step below.old below.new }
     ensures ready { Ready (P.Mapping.meaning mapping.now) (M.Memory.meaning below.new) tlb.new }
@@ -45,7 +46,7 @@ pub(crate) fn write_one<P: Mapping, M: Memory>(
     requires ready { Ready (P.Mapping.meaning mapping.now) (M.Memory.meaning below.old) tlb.old }
     ensures answer { result ≡ write_answer (windowed (P.Mapping.meaning mapping.now) (M.Memory.meaning below.old)) a.0 (length bytes.now) }
     ensures window { windowed (P.Mapping.meaning mapping.now) (M.Memory.meaning below.new) ≡ written (windowed (P.Mapping.meaning mapping.now) (M.Memory.meaning below.old)) a.0 bytes.now }
-    ensures behind { ◌≡◌ {A = Behind} (record { cells = M.Memory.meaning below.new; tlb = tlb.new }) (call_behind true (P.Mapping.meaning mapping.now) (record { cells = M.Memory.meaning below.old; tlb = tlb.old }) (writing a.0 bytes.now)) }
+    ensures behind { behind (M.Memory.meaning below.new) tlb.new ≡ call_behind true (P.Mapping.meaning mapping.now) (behind (M.Memory.meaning below.old) tlb.old) (writing a.0 bytes.now) }
     ensures coherent { M.Memory.coherent below.new }
     ensures reached { Reached M.Memory.step below.old below.new }
     ensures ready { Ready (P.Mapping.meaning mapping.now) (M.Memory.meaning below.new) tlb.new }

@@ -1,12 +1,11 @@
 // A span of an open window, which is lent with the memory below it: one call for each run, in order, up to the first that is refused.
-ghost use Rattle.std.specs.Prelude.{◌≡◌, true, take};
+ghost use Rattle.std.specs.Prelude.{◌≡◌, take};
 ghost use Rattle.memory.specs.Calls.{stored};
 ghost use Rattle.memory.specs.Reach.{Reached};
 ghost use Rattle.page_table.specs.Walk.{windowed};
 ghost use Rattle.page_table.specs.Ready.{Ready};
-ghost use Rattle.window_list.specs.Played.{Behind, call_behind};
 ghost use Rattle.span.specs.Runs.{reads_of, writes_of};
-ghost use Rattle.span.specs.Span.{Ended, ended, filled, window_answer};
+ghost use Rattle.span.specs.Span.{behind, come_to, filled, window_ended};
 
 use crate::one::{read_one, write_one};
 use crate::runs::{run_count, run_size};
@@ -31,7 +30,7 @@ pub fn read_span<P: Mapping, M: Memory>(
     requires armed { P.Mapping.armed mapping.now }
     requires coherent { M.Memory.coherent below.old }
     requires ready { Ready (P.Mapping.meaning mapping.now) (M.Memory.meaning below.old) tlb.old }
-    ensures ended { ◌≡◌ {A = Ended Behind} (record { answer = result.answer; done = result.done; left = record { cells = M.Memory.meaning below.new; tlb = tlb.new } }) (ended (window_answer (P.Mapping.meaning mapping.now)) (call_behind true (P.Mapping.meaning mapping.now)) (reads_of a.0 buffer.old) (record { cells = M.Memory.meaning below.old; tlb = tlb.old })) }
+    ensures ended { come_to result.answer result.done (behind (M.Memory.meaning below.new) tlb.new) ≡ window_ended (P.Mapping.meaning mapping.now) (reads_of a.0 buffer.old) (behind (M.Memory.meaning below.old) tlb.old) }
     ensures buffer { buffer.new ≡ filled (windowed (P.Mapping.meaning mapping.now) (M.Memory.meaning below.old)) a.0 result.done buffer.old }
     ensures window { windowed (P.Mapping.meaning mapping.now) (M.Memory.meaning below.new) ≡ windowed (P.Mapping.meaning mapping.now) (M.Memory.meaning below.old) }
     ensures coherent { M.Memory.coherent below.new }
@@ -67,7 +66,7 @@ pub fn write_span<P: Mapping, M: Memory>(
     requires armed { P.Mapping.armed mapping.now }
     requires coherent { M.Memory.coherent below.old }
     requires ready { Ready (P.Mapping.meaning mapping.now) (M.Memory.meaning below.old) tlb.old }
-    ensures ended { ◌≡◌ {A = Ended Behind} (record { answer = result.answer; done = result.done; left = record { cells = M.Memory.meaning below.new; tlb = tlb.new } }) (ended (window_answer (P.Mapping.meaning mapping.now)) (call_behind true (P.Mapping.meaning mapping.now)) (writes_of a.0 bytes.now) (record { cells = M.Memory.meaning below.old; tlb = tlb.old })) }
+    ensures ended { come_to result.answer result.done (behind (M.Memory.meaning below.new) tlb.new) ≡ window_ended (P.Mapping.meaning mapping.now) (writes_of a.0 bytes.now) (behind (M.Memory.meaning below.old) tlb.old) }
     ensures window { windowed (P.Mapping.meaning mapping.now) (M.Memory.meaning below.new) ≡ stored (windowed (P.Mapping.meaning mapping.now) (M.Memory.meaning below.old)) a.0 (take result.done bytes.now) }
     ensures coherent { M.Memory.coherent below.new }
     ensures reached { Reached M.Memory.step below.old below.new }
