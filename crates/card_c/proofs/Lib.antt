@@ -1,0 +1,5 @@
+pub mod Offers
+pub mod Owned
+pub mod Counted
+pub mod OverWindow
+pub mod Fillings

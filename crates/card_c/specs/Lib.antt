@@ -1,0 +1,4 @@
+pub mod Answer
+pub mod Setup
+pub mod Called
+pub mod Bytes

@@ -1,0 +1,5 @@
+pub mod Ones
+pub mod Parts
+pub mod Lengths
+pub mod CacheCalls
+pub mod Goings
