@@ -1,9 +1,27 @@
 # make run: prove, build and run the program on its sample input.
 # make test: the gate. Its last line is 'N passed, 0 failed'.
-.PHONY: run test
+# make cases SEED=.. COUNT=..: so many random cases of this seed, played on the model and on the proved library.
+# make fuzz MINUTES=..: cases of fresh seeds, for so long, or without MINUTES until it is stopped.
+.PHONY: run test cases fuzz conformance
+
+SEED = 1
+COUNT = 1000
+MINUTES =
 
 run:
 	cd crates/invoice && rt run < stdin
 
 test:
+	scripts/model_answers.sh
 	.ci/run
+
+# both programs that play cases
+conformance:
+	scripts/build_model.sh
+	cd crates/conformance && rt run < stdin > /dev/null
+
+cases: conformance
+	scripts/conformance.py cases $(SEED) $(COUNT)
+
+fuzz: conformance
+	scripts/conformance.py fuzz $(MINUTES)

@@ -52,6 +52,17 @@ impl<M: Memory> Cache<M> {
     {
         self.counts.report()
     }
+
+    // The line of an accepted write is dropped, since what is held of it is no longer what stands below. A write counts nothing.
+    fn settle_write(&mut self, number: u64, accepted: bool)
+        ensures lines { sets_of self.new.lines ≡ cond accepted (line_dropped number (sets_of self.old.lines)) (sets_of self.old.lines) }
+        ensures counts { self.new.counts ≡ self.old.counts }
+        ensures below { self.new.below ≡ self.old.below }
+    {
+        if accepted {
+            self.lines.drop_line(number);
+        }
+    }
 }
 
 impl<M: Memory> Memory for Cache<M> {
@@ -83,16 +94,7 @@ impl<M: Memory> Memory for Cache<M> {
     fn write(&mut self, a: u64, bytes: &[u8]) -> Result<(), Fault> {
         check_run(self.below.size(), a, bytes.len())?;
         let answer = from_below(self.below.write(a, bytes));
-        drop_written(&mut self.lines, a / LINE, answer.is_ok());
+        self.settle_write(a / LINE, answer.is_ok());
         answer
-    }
-}
-
-// The line of an accepted write is dropped, since what is held of it is no longer what stands below.
-fn drop_written(lines: &mut CacheSets, number: u64, accepted: bool)
-    ensures { sets_of lines.new ≡ cond accepted (line_dropped number (sets_of lines.old)) (sets_of lines.old) }
-{
-    if accepted {
-        lines.drop_line(number);
     }
 }

@@ -12,12 +12,12 @@ never e = let z : ◌≡◌ {A = ℕ} 0 1 = cc in omega arith
 same_some : {x y : CacheLine} → ◌≡◌ {A = Option CacheLine} (Some x) (Some y) → y ≡ x
 same_some e = cc
 
-module _ (n : ℕ) (y : CacheLine) where
+module _ (n : ℕ) where
   find_here : (x : CacheLine) (xs : List CacheLine) → x.number ≡ n → find n (x ∷ xs) ≡ Some x
   unfolding find
   find_here x xs e = cond-true _ _ _ (eq-eqb x.number n e)
 
-  find_past : (x : CacheLine) (xs : List CacheLine) → x.number ≢ n → find n (x ∷ xs) ≡ find n xs
+  pub find_past : (x : CacheLine) (xs : List CacheLine) → x.number ≢ n → find n (x ∷ xs) ≡ find n xs
   unfolding find
   find_past x xs ne = cond-false _ _ _ (ne_eqb x.number n ne)
 
@@ -25,27 +25,28 @@ module _ (n : ℕ) (y : CacheLine) where
   unfolding find
   find_none = refl
 
+module _ (n : ℕ) (y : CacheLine) where
   -- what is found behind x, or x itself
   find_cases : (x : CacheLine) (xs : List CacheLine) → find n (x ∷ xs) ≡ Some y → ((x.number ≡ n) × (y ≡ x)) ⊎ ((x.number ≢ n) × (find n xs ≡ Some y))
-  find_cases x xs e = ⊎_elim (λ is. inl (is, same_some (sym (find_here x xs is) ∙ e))) (λ ne. inr (ne, sym (find_past x xs ne) ∙ e)) (cases_eq x.number n)
+  find_cases x xs e = ⊎_elim (λ is. inl (is, same_some (sym (find_here n x xs is) ∙ e))) (λ ne. inr (ne, sym (find_past n x xs ne) ∙ e)) (cases_eq x.number n)
 
   find_take : (k : ℕ) (xs : List CacheLine) → find n (take k xs) ≡ Some y → find n xs ≡ Some y
-  find_take ℕ.zero xs e = absurd (never (sym find_none ∙ e))
+  find_take ℕ.zero xs e = absurd (never (sym (find_none n) ∙ e))
   find_take (ℕ.suc k) [] e = e
   find_take (ℕ.suc k) (x ∷ xs) e =
-      ⊎_elim (λ h. find_here x xs h.0 ∙ ap Some (sym h.1)) (λ h. find_past x xs h.0 ∙ find_take k xs h.1) (find_cases x (take k xs) e)
+      ⊎_elim (λ h. find_here n x xs h.0 ∙ ap Some (sym h.1)) (λ h. find_past n x xs h.0 ∙ find_take k xs h.1) (find_cases x (take k xs) e)
 
   find_without : (k : ℕ) (xs : List CacheLine) → find n (without k xs) ≡ Some y → (n ≢ k) × (find n xs ≡ Some y)
   unfolding without
-  find_without k [] e = absurd (never (sym find_none ∙ e))
+  find_without k [] e = absurd (never (sym (find_none n) ∙ e))
   find_without k (x ∷ xs) e =
       ⊎_elim
       (λ is.
       let rest = find_without k xs (ap (find n) (sym (cond-true _ _ _ (eq-eqb x.number k is))) ∙ e) in
-      (rest.0, find_past x xs (λ h. rest.0 (sym h ∙ is)) ∙ rest.1))
+      (rest.0, find_past n x xs (λ h. rest.0 (sym h ∙ is)) ∙ rest.1))
       (λ ne. ⊎_elim
-      (λ h. ((λ w. ne (h.0 ∙ w)), find_here x xs h.0 ∙ ap Some (sym h.1)))
-      (λ h. let rest = find_without k xs h.1 in (rest.0, find_past x xs h.0 ∙ rest.1))
+      (λ h. ((λ w. ne (h.0 ∙ w)), find_here n x xs h.0 ∙ ap Some (sym h.1)))
+      (λ h. let rest = find_without k xs h.1 in (rest.0, find_past n x xs h.0 ∙ rest.1))
       (find_cases x (without k xs) (ap (find n) (sym (cond-false _ _ _ (ne_eqb x.number k ne))) ∙ e)))
       (cases_eq x.number k)
 
@@ -55,16 +56,16 @@ module _ (n : ℕ) (y : CacheLine) where
 
   find_after_hit : (k : ℕ) (xs : List CacheLine) → find n (after_hit k xs) ≡ Some y → (x : CacheLine) × (find n xs ≡ Some x) × (y.bytes ≡ x.bytes)
   unfolding after_hit
-  find_after_hit k [] e = absurd (never (sym find_none ∙ e))
+  find_after_hit k [] e = absurd (never (sym (find_none n) ∙ e))
   find_after_hit k (x ∷ xs) e =
       ⊎_elim
       (λ is. ⊎_elim
-      (λ h. (x, find_here x xs h.0, ap (λ (l : CacheLine). l.bytes) h.1))
-      (λ h. (y, find_past x xs h.0 ∙ h.1, refl))
+      (λ h. (x, find_here n x xs h.0, ap (λ (l : CacheLine). l.bytes) h.1))
+      (λ h. (y, find_past n x xs h.0 ∙ h.1, refl))
       (find_cases (hit_once x) xs (ap (find n) (sym (cond-true _ _ _ (eq-eqb x.number k is))) ∙ e)))
       (λ ne. ⊎_elim
-      (λ h. (x, find_here x xs h.0, ap (λ (l : CacheLine). l.bytes) h.1))
-      (λ h. let rest = find_after_hit k xs h.1 in (rest.0, find_past x xs h.0 ∙ rest.1, rest.2))
+      (λ h. (x, find_here n x xs h.0, ap (λ (l : CacheLine). l.bytes) h.1))
+      (λ h. let rest = find_after_hit k xs h.1 in (rest.0, find_past n x xs h.0 ∙ rest.1, rest.2))
       (find_cases x (after_hit k xs) (ap (find n) (sym (cond-false _ _ _ (ne_eqb x.number k ne))) ∙ e)))
       (cases_eq x.number k)
 
@@ -93,7 +94,7 @@ module _ (n : ℕ) (y : CacheLine) (s : ℕ → List CacheLine) where
   held_hit k e = ⊎_elim (λ h. find_after_hit n y k (s (n % 8)) h) (λ h. (y, h.1, refl)) (at_set k (after_hit k) e)
 
 pub held_none : (n : ℕ) (y : CacheLine) → find n [] ≡ Some y → ⊥
-held_none n y e = never (sym (find_none n y) ∙ e)
+held_none n y e = never (sym (find_none n) ∙ e)
 
 hit_at : (n : ℕ) (x : CacheLine) (xs : List CacheLine) (t : Bool) → (find n xs ≡ None → after_hit n xs ≡ xs) → cond t (Some x) (find n xs) ≡ None → cond t (hit_once x ∷ xs) (x ∷ after_hit n xs) ≡ x ∷ xs
 hit_at n x xs true rest h = absurd (never (sym h))

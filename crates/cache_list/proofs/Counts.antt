@@ -20,9 +20,8 @@ use Rattle.cache.specs.Rules.{first_hit, line_read, after_read, after_write}
 use Rattle.cache.proofs.Copies.{ok_is}
 use Rattle.cache_list.specs.Behind.{Behind, call_behind, behind_after}
 use Rattle.cache_list.specs.Counts.{is_read, is_hit, is_prefetch, next_kept, how_many, counts_after, CountLaw, SortLaw}
-use Rattle.cache_list.specs.Held.{ReadOf, Held, Prefetched}
-use Rattle.cache_list.proofs.Helds.{held_law}
-use Rattle.cache_list.proofs.Once.{next_once}
+use Rattle.cache_list.specs.Held.{ReadOf, Held, Prefetches, HeldLaw}
+use Rattle.cache_list.proofs.Sets.{next_made}
 
 -- no call changes the size
 size_once : (m : Meaning) (c : Call) → (cells_after m c).size ≡ m.size
@@ -158,32 +157,32 @@ count_law x cs most = record {
 }
 
 -- a hit and a prefetch, by what stands before the call
-is_hit_held : (x : Behind) (c : Call) → Decides (is_hit x c) ((n : ℕ) × ReadOf x.cells c n × Held x n)
+is_hit_held : (x : Behind) (c : Call) → Decides (is_hit x c) ((n : ℕ) × ReadOf n x c × Held n x)
 is_hit_held x (reading a b) = (
   λ e. let both = and_parts _ _ e in (a / 128, (ok_is _ both.0, refl), both.1),
-  λ w. and_from _ _ (ap is_ok w.1.0) (subst (Held x) (sym w.1.1) w.2),
+  λ w. and_from _ _ (ap is_ok w.1.0) (subst (λ i. Held i x) (sym w.1.1) w.2),
 )
 is_hit_held x (writing a bs) = (λ e. absurd (both_ways false refl e), λ w. absurd w.1)
 
-is_prefetch_made : (x : Behind) (c : Call) → Decides (is_prefetch x c) ((n : ℕ) × Prefetched x c n)
+is_prefetch_made : (x : Behind) (c : Call) → Decides (is_prefetch x c) ((n : ℕ) × Prefetches n x c)
 is_prefetch_made x (reading a b) = (
-  λ e. let both = and_parts _ _ e in (next_once x a b (ok_is _ both.0)).0 both.1,
-  λ w. and_from _ _ (ap is_ok w.1.read.0) ((next_once x a b w.1.read.0).1 w),
+  λ e. let both = and_parts _ _ e in (next_made x a b (ok_is _ both.0)).0 both.1,
+  λ w. and_from _ _ (ap is_ok w.1.read.0) ((next_made x a b w.1.read.0).1 w),
 )
 is_prefetch_made x (writing a bs) = (λ e. absurd (both_ways false refl e), λ w. absurd w.1.read)
 
-read_as : (m k : Meaning) → m.size ≡ k.size → (c : Call) (n : ℕ) → ReadOf m c n → ReadOf k c n
-read_as m k same (reading a b) n h = (sym (ap (λ z. check_run z a (length b)) same) ∙ h.0, h.1)
-read_as m k same (writing a bs) n h = h
+read_as : (x y : Behind) → x.cells.size ≡ y.cells.size → (c : Call) (n : ℕ) → ReadOf n x c → ReadOf n y c
+read_as x y same (reading a b) n h = (sym (ap (λ z. check_run z a (length b)) same) ∙ h.0, h.1)
+read_as x y same (writing a bs) n h = h
 
-pub sort_law : (x : Behind) (cs : List Call) → SortLaw x cs
-sort_law x cs = record {
+pub sort_law : (x : Behind) (cs : List Call) → HeldLaw x cs → SortLaw x cs
+sort_law x cs law = record {
   hits = λ k c at.
       let y : Behind = behind_after x (take k cs) in
       let same : y.cells.size ≡ x.cells.size = size_after x (take k cs) in
       let low : k ≤ length cs = omega (arith, slice_get_within cs k c at) in (
-        λ e. let w = (is_hit_held y c).0 e in (w.0, read_as y.cells x.cells same c w.0 w.1, (held_law x cs w.0 k low).0 w.2),
-        λ w. (is_hit_held y c).1 (w.0, read_as x.cells y.cells (sym same) c w.0 w.1, (held_law x cs w.0 k low).1 w.2),
+        λ e. let w = (is_hit_held y c).0 e in (w.0, read_as y x same c w.0 w.1, (law.held w.0 k low).0 w.2),
+        λ w. (is_hit_held y c).1 (w.0, read_as x y (sym same) c w.0 w.1, (law.held w.0 k low).1 w.2),
       );
   prefetches = λ k c at. is_prefetch_made (behind_after x (take k cs)) c;
 }

@@ -1,5 +1,5 @@
 pub mod Counts
 pub mod Helds
-pub mod Holds
 pub mod Once
 pub mod Playing
+pub mod Sets

@@ -1,5 +1,5 @@
 -- What a list of calls on a cache comes to, by the states it goes through. Assumes nothing.
-use Rattle.std.proofs.Common.{◌≡◌, ℕ, List, [], ◌∷◌, take, drop, refl, ap, ◌∙◌, subst}
+use Rattle.std.proofs.Common.{◌≡◌, ℕ, ◌%◌, List, [], ◌∷◌, take, drop, refl, ap, ◌∙◌, subst}
 use Rattle.memory.specs.Meaning.{Meaning}
 use Rattle.memory.specs.Reach.{Call, Linked, Reached, after_calls, Step}
 use Rattle.memory.specs.Up.{cells_up}
@@ -15,6 +15,7 @@ use Rattle.cache.specs.State.{Standing, Called}
 use Rattle.cache_list.specs.Behind.{Behind, call_behind, behind_after}
 use Rattle.cache_list.specs.Played.{StateAfter, CachePlayed}
 use Rattle.cache_list.proofs.Helds.{held_law}
+use Rattle.cache_lines.proofs.Holds.{two_ways}
 use Rattle.cache_list.proofs.Counts.{count_law, sort_law}
 
 -- over the caches on a memory of any kind
@@ -70,6 +71,7 @@ module _ {S : Type 0} (meaning : S → Meaning) (coherent : S → Type 0) (R : S
   pub list_on_cache : (v w : Cache S) (cs ds : List Recorded) → CacheCoherent v → ListPlayed CacheCells CacheCoherent CacheStep v w cs ds → CachePlayed meaning coherent R v w cs ds
   list_on_cache v w cs ds standing list =
       let p = passed v w (calls_of cs) list.linked in
+      let held = held_law (Standing_behind v) (calls_of cs) (λ n. two_ways v.lines (n % 8)) in
       record {
         list = record {
           calls = list.calls;
@@ -79,8 +81,8 @@ module _ {S : Type 0} (meaning : S → Meaning) (coherent : S → Type 0) (R : S
           below = p.below;
           behind = p.behind;
           reached = p.reached;
-          held = held_law (Standing_behind v) (calls_of cs);
-          sorts = sort_law (Standing_behind v) (calls_of cs);
+          held = held;
+          sorts = sort_law (Standing_behind v) (calls_of cs) held;
           counts = count_law (Standing_behind v) (calls_of cs) standing.steady.most;
         };
         standing = list.coherent_after;

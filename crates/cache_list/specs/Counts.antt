@@ -17,7 +17,7 @@ use Rattle.cache.specs.declared.counts.CacheCounts.{CacheCounts}
 use Rattle.cache.specs.Counts.{one_if}
 use Rattle.cache.specs.Rules.{prefetch_keeps, miss_keeps, first_hit}
 use Rattle.cache_list.specs.Behind.{Behind, call_behind, behind_after}
-use Rattle.cache_list.specs.Held.{ReadOf, Prefetched, HeldBy}
+use Rattle.cache_list.specs.Held.{ReadOf, Prefetches, HeldSince}
 
 abbrev pub is_read : ℕ → Call → Bool
 is_read size (reading a b) = is_ok (check_run size a (length b))
@@ -55,5 +55,5 @@ pub record CountLaw (x : Behind) (cs : List Call) : Type 0 where
 
 -- a hit is a read of a line that a call kept, or that was held at the start, and that has not left since
 pub record SortLaw (x : Behind) (cs : List Call) : Type 0 where
-  pub hits : (k : ℕ) (c : Call) → slice_get cs k ≡ Some c → Decides (is_hit (behind_after x (take k cs)) c) ((n : ℕ) × ReadOf x.cells c n × HeldBy n x cs k)
-  pub prefetches : (k : ℕ) (c : Call) → slice_get cs k ≡ Some c → Decides (is_prefetch (behind_after x (take k cs)) c) ((n : ℕ) × Prefetched (behind_after x (take k cs)) c n)
+  pub hits : (k : ℕ) (c : Call) → slice_get cs k ≡ Some c → Decides (is_hit (behind_after x (take k cs)) c) ((n : ℕ) × ReadOf n x c × HeldSince n x cs k)
+  pub prefetches : (k : ℕ) (c : Call) → slice_get cs k ≡ Some c → Decides (is_prefetch (behind_after x (take k cs)) c) ((n : ℕ) × Prefetches n (behind_after x (take k cs)) c)

@@ -16,30 +16,31 @@ use window_list::play_window;
 // The record whose price is read and written. It stands in the first page, and its price at window address 12.
 pub(crate) const RECORD: u32 = 3;
 
-// 1999 cents, as the list writes them.
-const NEW: [u8; 4] = [0, 0, 7, 207];
+// The cents that the list writes.
+pub(crate) const NEW: u32 = 1999;
 
 // A call: what it does to its run, the address, its buffer before and afterwards, and its answer.
 type Step<'a> = (Access, u64, &'a [u8], &'a [u8], Result<(), Fault>);
 
-// The list is for a window of two lines, of which the second one's page is out, and this is the price of the record before.
-fn steps(price: &[u8; 4]) -> [Step<'_>; 7] {
+// The list is for a window of two lines, of which the second one's page is out. Of the record this is the price before, and the one that is
+// written; and so deep is a fault of the window.
+fn steps<'a>(price: &'a [u8; 4], new: &'a [u8; 4], depth: u8) -> [Step<'a>; 7] {
     let word = &BEFORE[..4];
     let refused = |cause, address| Err(Fault::here(cause, address));
+    let out = |address| {
+        Err(Fault {
+            depth,
+            ..Fault::here(Cause::PageOut, address)
+        })
+    };
     [
         (Access::Read, 12, word, price, Ok(())),
-        (Access::Write, 12, &NEW, &NEW, Ok(())),
-        (Access::Read, 12, word, &NEW, Ok(())),
+        (Access::Write, 12, new, new, Ok(())),
+        (Access::Read, 12, word, new, Ok(())),
         (Access::Read, 126, word, word, refused(Cause::BadRun, 126)),
-        (Access::Write, 256, &NEW, &NEW, refused(Cause::PastEnd, 256)),
-        (
-            Access::Read,
-            128,
-            &BEFORE,
-            &BEFORE,
-            refused(Cause::PageOut, 128),
-        ),
-        (Access::Write, 132, &NEW, &NEW, refused(Cause::PageOut, 132)),
+        (Access::Write, 256, new, new, refused(Cause::PastEnd, 256)),
+        (Access::Read, 128, &BEFORE, &BEFORE, out(128)),
+        (Access::Write, 132, new, new, out(132)),
     ]
 }
 
@@ -47,17 +48,20 @@ fn steps(price: &[u8; 4]) -> [Step<'_>; 7] {
 pub(crate) fn calls_and_due(
     heap: Global,
     price: u32,
+    new: u32,
+    depth: u8,
 ) -> Result<(Vec<CallRecord>, Vec<CallRecord>), AllocError> {
     let mut calls = Vec::new(heap);
     let mut due = Vec::new(heap);
-    for (access, address, before, after, answer) in steps(&price.to_be_bytes()) {
+    let (price, new) = (price.to_be_bytes(), new.to_be_bytes());
+    for (access, address, before, after, answer) in steps(&price, &new, depth) {
         calls.push(record(heap, access, address, before, None)?)?;
         due.push(record(heap, access, address, after, Some(answer))?)?;
     }
     Ok((calls, due))
 }
 
-fn record(
+pub(crate) fn record(
     heap: Global,
     access: Access,
     address: u64,
@@ -100,11 +104,9 @@ pub(crate) fn show_list<M: Memory + Drop>(
     let price = read_price(&mut memory, RECORD).context("the price was not read")?;
     let settings = [256, u64::from(card.table()), 4, 128, 8];
     let mut window = open(rt, armed_set::<Stride>(&settings)?, memory)?;
-    let (mut calls, due) = calls_and_due(rt.alloc(), price)?;
+    let (mut calls, due) = calls_and_due(rt.alloc(), price, NEW, 0)?;
     let report = play_window(&mut window, &mut calls);
-    for call in &calls {
-        show_call(rt, call)?;
-    }
+    show_calls(rt, &calls)?;
     check_records(&calls, &due)?;
     show_counts(rt, &report)?;
     if report.lookups != 5 || report.fills != 1 {
@@ -113,6 +115,14 @@ pub(crate) fn show_list<M: Memory + Drop>(
     let mut memory = window.close();
     show_marks(rt, &mut memory, card.table(), &[WRITTEN, FRESH_OUT])?;
     Ok(memory)
+}
+
+// Shows each call with its answer.
+pub(crate) fn show_calls(rt: &HostRuntime, calls: &[CallRecord]) -> anyhow::Result<()> {
+    for call in calls {
+        show_call(rt, call)?;
+    }
+    Ok(())
 }
 
 fn show_call(rt: &HostRuntime, call: &CallRecord) -> anyhow::Result<()> {

@@ -1,6 +1,7 @@
 // The whole card: prices in, records written into checked memory, and a dense image of the prices read and written through windows.
 #![tactic(auto)]
 
+mod caches;
 mod chip;
 mod column;
 mod correction;
@@ -15,6 +16,7 @@ mod stacks;
 mod table;
 mod windows;
 
+use crate::caches::show_caches;
 use crate::chip::show_failing_chip;
 use crate::column::show_column;
 use crate::correction::show_correction;
@@ -39,8 +41,8 @@ PRICES has one price to a line: cents in decimal, below 4294967296; 32 to 1024 l
 The program writes the prices as records into checked memory, and opens a window over them by a\n\
 stride mapping and a page table: 32 prices side by side are one line of it. It adds the lines up,\n\
 corrects a price, and shows marks and counts, a page that is not in memory, a window over a window,\n\
-a list of calls on one window and on stacks of windows, set-ups and openings that are refused, and\n\
-what a flipped bit does.";
+a list of calls on one window, on stacks of windows, and with a cache under or over the window,\n\
+set-ups and openings that are refused, and what a flipped bit does.";
 
 fn main(rt: HostRuntime) -> anyhow::Result<ExitCode> {
     start(&rt, "invoice", HELP, |prices| invoice(&rt, prices))
@@ -74,6 +76,7 @@ fn show_windows<M: Memory + Drop>(
     let memory = show_layers(rt, memory, card)?;
     let memory = show_list(rt, memory, card)?;
     show_stacks(rt, prices)?;
+    let memory = show_caches(rt, memory, card)?;
     show_refused_sets(rt)?;
     show_refused_openings(rt, memory, card)
 }

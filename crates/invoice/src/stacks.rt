@@ -1,7 +1,7 @@
 // One list of calls on stacks of one, two and three windows.
 ghost use Rattle.std.specs.Prelude.{IfOk};
 
-use crate::list::{RECORD, calls_and_due, check_records};
+use crate::list::{NEW, RECORD, calls_and_due, check_records};
 use crate::sets::armed_set;
 use crate::table::{write_half_table, write_table};
 use crate::windows::opened;
@@ -22,29 +22,17 @@ const PLAIN_BYTES: usize = 24_576;
 
 const CHECKED_BYTES: usize = 24_768;
 
-// The uppermost window: two lines of prices, by a table in page 2.
-const UPPERMOST: [RegisterWrite; 5] = [
-    RegisterWrite {
-        number: 0,
-        value: 256,
-    },
-    RegisterWrite {
-        number: 1,
-        value: 2,
-    },
-    RegisterWrite {
-        number: 2,
-        value: 4,
-    },
-    RegisterWrite {
-        number: 3,
-        value: 128,
-    },
-    RegisterWrite {
-        number: 4,
-        value: 8,
-    },
-];
+// What a window of two lines of prices is written with, by a table in this page.
+pub(crate) fn two_lines(table: u32) -> [RegisterWrite; 5] {
+    let write = |number, value| RegisterWrite { number, value };
+    [
+        write(0, 256),
+        write(1, u64::from(table)),
+        write(2, 4),
+        write(3, 128),
+        write(4, 8),
+    ]
+}
 
 // Plays the list on six stacks, each of which has the same prices in its records.
 pub(crate) fn show_stacks(rt: &HostRuntime, prices: &[u32]) -> anyhow::Result<()> {
@@ -117,9 +105,9 @@ fn show_stack<M: Memory + Drop>(rt: &HostRuntime, memory: M, prices: &[u32]) -> 
     let price = prices
         .get(RECORD as usize)
         .context("there is no such price")?;
-    let (mut calls, due) = calls_and_due(rt.alloc(), *price)?;
+    let (mut calls, due) = calls_and_due(rt.alloc(), *price, NEW, 0)?;
     let WindowRun { memory: _, outcome } = run_window::<Stride, M>(
-        &UPPERMOST,
+        &two_lines(2),
         memory,
         &mut [0; 6],
         &mut calls,

@@ -7,6 +7,14 @@ use units::{LINE, PAGE};
 // A byte, or the fault that a call on the cell is refused with.
 pub(crate) type Cell = Result<u8, Fault>;
 
+// A cell of the memory below, as a layer passes it up: a fault is one deeper.
+pub(crate) fn passed_up(cell: Cell) -> Cell {
+    cell.map_err(|fault| Fault {
+        depth: fault.depth.saturating_add(1),
+        ..fault
+    })
+}
+
 #[derive(Drop)]
 pub(crate) struct PlainCopy {
     pub(crate) cells: Vec<Cell>,
@@ -24,6 +32,31 @@ impl PlainCopy {
     // How many cells are bytes.
     pub(crate) fn bytes(&self) -> usize {
         self.cells.iter().filter(|cell| cell.is_ok()).count()
+    }
+
+    // The cells of a cache over these.
+    pub(crate) fn over_cache(&self, heap: Global) -> Result<PlainCopy, AllocError> {
+        let mut cells = Vec::new(heap);
+        for cell in &self.cells {
+            cells.push(passed_up(*cell))?;
+        }
+        Ok(PlainCopy { cells })
+    }
+
+    // Puts the bytes of a cache over these cells where they stand.
+    pub(crate) fn take_bytes(&mut self, above: &PlainCopy) {
+        for (cell, byte) in self.cells.iter_mut().zip(&above.cells) {
+            if byte.is_ok() {
+                *cell = *byte;
+            }
+        }
+    }
+
+    // Whether all cells of the line are bytes.
+    pub(crate) fn whole(&self, line: u64) -> bool {
+        let first = line.saturating_mul(LINE) as usize;
+        let cells = self.cells.get(first..first.saturating_add(LINE as usize));
+        cells.is_some_and(|cells| cells.iter().all(|cell| cell.is_ok()))
     }
 
     // Makes each cell of a line one that fails its check.

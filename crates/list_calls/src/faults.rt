@@ -121,7 +121,7 @@ fn dead_upper_table(rt: HostRuntime) -> Result<(), Fail> {
 }
 
 // A checked bottom, in one line of which a bit turns over once all is written.
-fn spoilt_bottom<'a>(
+pub(crate) fn spoilt_bottom<'a>(
     heap: Global,
     bytes: &'a mut [u8],
     line: u32,

@@ -1,5 +1,5 @@
 // One window of a stack: what is written for it, and what its cells are.
-use crate::copy::{Cell, PlainCopy};
+use crate::copy::{Cell, PlainCopy, passed_up};
 use crate::placing::Placing;
 use card::RegisterWrite;
 use memory::{Cause, Fault};
@@ -135,12 +135,8 @@ impl Layer<'_> {
     }
 }
 
-// A cell of the memory below, as the window passes it up: a fault is one deeper.
+// A cell of the memory below, as the window passes it up.
 fn cell_below(below: &PlainCopy, a: u64) -> Cell {
     let cell = below.cells.get(a as usize).copied();
-    cell.unwrap_or(Err(Fault::here(Cause::PastEnd, a)))
-        .map_err(|fault| Fault {
-            depth: fault.depth.saturating_add(1),
-            ..fault
-        })
+    passed_up(cell.unwrap_or(Err(Fault::here(Cause::PastEnd, a))))
 }

@@ -2,7 +2,7 @@
 use crate::copy::PlainCopy;
 use call_list::CallRecord;
 use expect::same;
-use memory::{Access, Cause};
+use memory::{Access, Cause, Fault};
 use std::alloc::{AllocError, Global};
 use std::test::Fail;
 use units::{LINE, PAGE};
@@ -57,6 +57,26 @@ pub(crate) fn call(access: Access, address: u64, buffer: Vec<u8>) -> CallRecord 
         buffer,
         answer: None,
     }
+}
+
+// A call, the address and the length of its run, and its answer.
+pub(crate) type Step = (Access, u64, usize, Result<(), Fault>);
+
+// The calls of these steps. Each buffer holds EE, which is also what a write puts.
+pub(crate) fn steps_list(heap: Global, steps: &[Step]) -> Result<Vec<CallRecord>, AllocError> {
+    let mut calls = Vec::new(heap);
+    for (access, a, n, _) in steps {
+        calls.push(call(*access, *a, vec![in heap; 0xee; *n]?))?;
+    }
+    Ok(calls)
+}
+
+// Each call has to have the answer of its step.
+pub(crate) fn check_answers(calls: &[CallRecord], steps: &[Step]) -> Result<(), Fail> {
+    for (call, (.., answer)) in calls.iter().zip(steps) {
+        same(call.answer, Some(*answer))?;
+    }
+    Ok(())
 }
 
 // Runs of each length from 0 to 130, in no order, at and beside the borders of objects of each size, of lines, of pages and of the memory.

@@ -2,10 +2,9 @@
 ghost use Rattle.std.specs.Prelude.{IfOk};
 
 use crate::layer::Layer;
-use crate::list::{call, reading_list, words_list};
+use crate::list::{Step, check_answers, reading_list, steps_list, words_list};
 use crate::placing::Placing;
 use crate::stack::{CHECKED_BYTES, Copied, PLAIN_BYTES, bottom, check_list};
-use call_list::CallRecord;
 use card::{WindowRun, run_window};
 use checked::CheckByte;
 use direct::Direct;
@@ -13,14 +12,11 @@ use expect::{armed_set, same};
 use mapping::Mapping;
 use memory::{Access, ByteMemory, Cause, Fault, LineFormat, Memory};
 use plain::CellsAlone;
-use std::alloc::{AllocError, Global};
+use std::alloc::Global;
 use std::test::Fail;
 use stride::Stride;
 use window::{Window, WindowReport};
 use window_list::play_window;
-
-// A call, the address and the length of its run, and its answer.
-type Step = (Access, u64, usize, Result<(), Fault>);
 
 // Cells of the memory that a list leaves: an address, a number of cells, and the byte that each of them holds.
 type Change = (u64, usize, u8);
@@ -32,24 +28,6 @@ struct Case<'a> {
     steps: &'a [Step],
     report: WindowReport,
     changes: &'a [Change],
-}
-
-impl Case<'_> {
-    // Each buffer holds EE, which is also what a write puts.
-    fn calls(self, heap: Global) -> Result<Vec<CallRecord>, AllocError> {
-        let mut calls = Vec::new(heap);
-        for (access, a, n, _) in self.steps {
-            calls.push(call(*access, *a, vec![in heap; 0xee; *n]?))?;
-        }
-        Ok(calls)
-    }
-
-    fn check_answers(self, calls: &[CallRecord]) -> Result<(), Fail> {
-        for (call, (.., answer)) in calls.iter().zip(self.steps) {
-            same(call.answer, Some(*answer))?;
-        }
-        Ok(())
-    }
 }
 
 // The list by `play_window`, on a window that is then closed.
@@ -64,9 +42,9 @@ fn played<P: Mapping, M: Memory + Drop>(
 {
     let set = armed_set::<P>(case.layer.registers)?;
     let mut window = Window::open(set, memory, board);
-    let mut calls = case.calls(heap)?;
+    let mut calls = steps_list(heap, case.steps)?;
     same(play_window(&mut window, &mut calls), case.report)?;
-    case.check_answers(&calls)?;
+    check_answers(&calls, case.steps)?;
     Ok(window.close())
 }
 
@@ -80,11 +58,11 @@ fn ran<P: Mapping, M: Memory + Drop>(
     requires { M.Memory.coherent memory }
     ensures { IfOk result M.Memory.coherent }
 {
-    let mut calls = case.calls(heap)?;
+    let mut calls = steps_list(heap, case.steps)?;
     let writes = case.layer.writes(heap)?;
     let WindowRun { memory, outcome } = run_window::<P, M>(&writes, memory, board, &mut calls);
     same(outcome, Ok(case.report))?;
-    case.check_answers(&calls)?;
+    check_answers(&calls, case.steps)?;
     Ok(memory)
 }
 

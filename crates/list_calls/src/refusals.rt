@@ -1,10 +1,16 @@
-// Set-ups that are refused, and windows that stay shut.
+// Set-ups that are refused, and windows that stay shut, alone, over caches and under them.
+ghost use Rattle.std.specs.Prelude.{IfOk};
+
+use crate::cached::counts;
 use crate::copy::PlainCopy;
 use crate::layer::Layer;
 use crate::list::{mixed_list, same_records, words_list};
 use crate::stack::{Copied, PLAIN_BYTES, bottom, check_list};
 use call_list::CallRecord;
-use card::{RegisterWrite, SetUpRefusal, WindowRun, run_window};
+use card::{
+    CacheRun, CachedRun, RegisterWrite, SetUpRefusal, WindowRun, run_cache_over_window, run_window,
+    run_window_over_cache,
+};
 use direct::Direct;
 use expect::{armed_set, same};
 use mapping::{ArmingRefusal, Mapping, RegisterRefusal};
@@ -30,14 +36,36 @@ fn check_refused<P: Mapping>(
     let Copied { memory, copy } = bottom::<CellsAlone>(heap, &mut bytes)?;
     let mut board = [7; 40];
     let mut calls = mixed_list(heap, 4, 256)?;
-    let WindowRun { memory, outcome } = run_window::<P, Plain>(
-        &writes, memory, &mut board, &mut calls,
-    );
-    same(outcome, Err(due))?;
+    let memory = refused_runs::<P, Plain>(&writes, memory, &mut board, &mut calls, due)?;
     same(memory.size(), PLAIN_BYTES as u64)?;
     same_records(&calls, &mixed_list(heap, 4, 256)?)?;
     same(board, [7; 40])?;
     same_bytes(&bytes, &copy)
+}
+
+// A window alone, one over a cache, and one under a cache.
+fn refused_runs<P: Mapping, M: Memory + Drop>(
+    writes: &[RegisterWrite],
+    memory: M,
+    board: &mut [u8],
+    calls: &mut [CallRecord],
+    due: SetUpRefusal,
+) -> Result<M, Fail>
+    requires { M.Memory.coherent memory }
+    ensures { IfOk result M.Memory.coherent }
+{
+    let WindowRun { memory, outcome } = run_window::<P, M>(writes, memory, board, calls);
+    same(outcome, Err(due))?;
+    let CachedRun {
+        memory,
+        outcome,
+        cache,
+    } = run_window_over_cache::<P, M>(writes, memory, board, calls);
+    same(outcome, Err(due))?;
+    same(cache, counts([0; 4]))?;
+    let CacheRun { memory, outcome } = run_cache_over_window::<P, M>(writes, memory, board, calls);
+    same(outcome, Err(due))?;
+    Ok(memory)
 }
 
 // The bytes of a plain memory are the cells of its copy.
@@ -98,6 +126,38 @@ fn refused_list(heap: Global) -> Result<(Vec<CallRecord>, Vec<CallRecord>), Fail
     Ok((calls, due))
 }
 
+// The list on windows that stay shut, over a cache and under one. An opening that is refused with 21 or 22 reads nothing, and any other the
+// line of the table.
+fn check_cached_calls<M: Memory + Drop>(
+    heap: Global,
+    memory: M,
+    layer: Layer,
+    board: &mut [u8],
+    due: WindowReport,
+) -> Result<M, Fail>
+    requires { M.Memory.coherent memory }
+    ensures { IfOk result M.Memory.coherent }
+{
+    let writes = layer.writes(heap)?;
+    let (mut calls, refused) = refused_list(heap)?;
+    let CachedRun {
+        memory,
+        outcome,
+        cache,
+    } = run_window_over_cache::<Stride, M>(&writes, memory, board, &mut calls);
+    same(outcome, Ok(due))?;
+    let read = u64::from(due.reason > 22);
+    same(cache, counts([read, 0, read, 0]))?;
+    same_records(&calls, &refused)?;
+    let (mut calls, refused) = refused_list(heap)?;
+    let CacheRun { memory, outcome } = run_cache_over_window::<Stride, M>(
+        &writes, memory, board, &mut calls,
+    );
+    same(outcome, Ok((due, counts([0; 4]))))?;
+    same_records(&calls, &refused)?;
+    Ok(memory)
+}
+
 // The list by `run_window`, and by `play_window`, on windows that stay shut.
 fn check_calls<M: Memory + Drop>(
     heap: Global,
@@ -150,6 +210,7 @@ fn check_shut(
         lookups: 0,
         fills: 0,
     };
+    let memory = check_cached_calls(heap, memory, layer, &mut board, due)?;
     check_calls(heap, memory, layer, &mut board, due)?;
     same(board.iter().all(|byte| *byte == 0), true)?;
     same_bytes(&bytes, &copy)

@@ -1,4 +1,4 @@
-// Windows over windows over a bottom, each with the plain copy of its cells.
+// Windows and caches over a bottom, each with the plain copy of its cells.
 ghost use Rattle.std.specs.Prelude.{IfOk};
 
 use crate::copy::PlainCopy;
@@ -68,11 +68,22 @@ pub(crate) fn bottom<'a, F: LineFormat>(
 ) -> Result<Copied<ByteMemory<'a, F>>, Fail>
     ensures { IfOk result (λ c. ⟦<ByteMemory<'a, F> as Memory>⟧.coherent c.memory) }
 {
+    bottom_of::<F>(heap, bytes, LINES)
+}
+
+// One of so many lines.
+pub(crate) fn bottom_of<'a, F: LineFormat>(
+    heap: Global,
+    bytes: &'a mut [u8],
+    lines: u64,
+) -> Result<Copied<ByteMemory<'a, F>>, Fail>
+    ensures { IfOk result (λ c. ⟦<ByteMemory<'a, F> as Memory>⟧.coherent c.memory) }
+{
     let mut memory = ByteMemory::<F>::new(bytes);
     let mut copy = PlainCopy {
-        cells: vec![in heap; Ok(0u8); (LINES * LINE) as usize]?,
+        cells: vec![in heap; Ok(0u8); lines.saturating_mul(LINE) as usize]?,
     };
-    check_list(heap, &mut memory, &mut copy, filling_list(heap, LINES)?)?;
+    check_list(heap, &mut memory, &mut copy, filling_list(heap, lines)?)?;
     Ok(Copied { memory, copy })
 }
 
