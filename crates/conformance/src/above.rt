@@ -1,11 +1,10 @@
-// A stack is a type: what stands above a memory, from there up.
-ghost use Rattle.std.specs.Prelude.{IfOk};
+// What stands above a memory, layer by layer, as the case says.
+ghost use Rattle.std.specs.Prelude.{IfOk, MatchResult};
 
-use crate::answers::{
-    write_cache_report, write_calls, write_opened, write_refused, write_window_report,
-};
+use crate::answers::{write_calls, write_opened, write_refused};
+use crate::any_layer::AnyLayer;
 use crate::case::{Layer, SetUp};
-use anyhow::{Context, bail};
+use anyhow::Context;
 use cache::Cache;
 use call_list::{CallRecord, play};
 use card::armed_set;
@@ -40,12 +39,8 @@ pub(crate) trait Above<M: Memory> {
 // No layer: the calls are made here.
 pub(crate) struct Top;
 
-pub(crate) struct CacheThen<A>(PhantomData<A>);
-
-pub(crate) struct WindowThen<P, A>(PhantomData<P>, PhantomData<A>);
-
-// The layer that the case has next, or none.
-pub(crate) struct AnyThen<A>(PhantomData<A>);
+// The layer that the case has next, and what stands above it; or none.
+pub(crate) struct UpTo<A>(PhantomData<A>);
 
 impl<M: Memory + Drop> Above<M> for Top {
     fn play(run: &mut Run<'_>, memory: M) -> anyhow::Result<M> {
@@ -56,59 +51,67 @@ impl<M: Memory + Drop> Above<M> for Top {
     }
 }
 
-impl<M: Memory + Drop, A: Above<Cache<M>>> Above<M> for CacheThen<A> {
+impl<M: Memory + Drop, A: Above<AnyLayer<M>>> Above<M> for UpTo<A> {
     fn play(run: &mut Run<'_>, memory: M) -> anyhow::Result<M> {
-        let cache = Cache::new(memory);
-        writeln!(run.text, "cache {}", cache.size())?;
-        let cache = A::play(run, cache)?;
-        write_cache_report(&mut run.text, &cache.report())?;
-        Ok(cache.close())
-    }
-}
-
-impl<M: Memory + Drop, P: Mapping, A: Above<Window<P, M>>> Above<M> for WindowThen<P, A> {
-    fn play(run: &mut Run<'_>, memory: M) -> anyhow::Result<M> {
-        let set_up = run.set_ups.next().context("a window has no board")?;
-        let mut board = vec![in run.heap; 0xFFu8; set_up.board]?;
-        match armed_set::<P>(&set_up.writes) {
-            Ok(set) => {
-                let window = Window::open(set, memory, &mut board);
-                write_opened(
-                    &mut run.text,
-                    set_up,
-                    &window.report(),
-                    window.size(),
-                    &board,
-                )?;
-                let window = A::play(run, window)?;
-                write_window_report(&mut run.text, &window.report())?;
-                Ok(window.close())
-            }
-            Err(refusal) => {
-                write_refused(&mut run.text, set_up, refusal, &board)?;
-                Ok(memory)
-            }
+        match run.layers.next() {
+            None => Top::play(run, memory),
+            Some(layer) => match made(run, *layer, memory)? {
+                Ok(layer) => {
+                    let layer = A::play(run, layer)?;
+                    Ok(layer.close(&mut run.text)?)
+                }
+                Err(memory) => Ok(memory),
+            },
         }
     }
 }
 
-impl<M, A> Above<M> for AnyThen<A>
-where
-    M: Memory + Drop,
-    A: Above<Cache<M>>
-        + Above<Window<Direct, M>>
-        + Above<Window<Colour, M>>
-        + Above<Window<Stride, M>>
-        + Above<Window<Transpose, M>>,
+// The layer over this memory; the memory again, where the set-up of a window is refused.
+fn made<M: Memory + Drop>(
+    run: &mut Run<'_>,
+    layer: Layer,
+    memory: M,
+) -> anyhow::Result<Result<AnyLayer<M>, M>>
+    requires { M.Memory.coherent memory }
+    ensures { IfOk result (λ r. MatchResult r ⟦<AnyLayer<M> as Memory>⟧.coherent M.Memory.coherent) }
 {
-    fn play(run: &mut Run<'_>, memory: M) -> anyhow::Result<M> {
-        match run.layers.next() {
-            None => Top::play(run, memory),
-            Some(Layer::Cache) => CacheThen::<A>::play(run, memory),
-            Some(Layer::Direct) => WindowThen::<Direct, A>::play(run, memory),
-            Some(Layer::Colour) => WindowThen::<Colour, A>::play(run, memory),
-            Some(Layer::Stride) => WindowThen::<Stride, A>::play(run, memory),
-            Some(Layer::Transpose) => WindowThen::<Transpose, A>::play(run, memory),
+    Ok(match layer {
+        Layer::Cache => {
+            let cache = Cache::new(memory);
+            writeln!(run.text, "cache {}", cache.size())?;
+            Ok(AnyLayer::Cached(cache))
+        }
+        Layer::Direct => opened::<Direct, M>(run, memory)?.map(AnyLayer::Direct),
+        Layer::Colour => opened::<Colour, M>(run, memory)?.map(AnyLayer::Colour),
+        Layer::Stride => opened::<Stride, M>(run, memory)?.map(AnyLayer::Stride),
+        Layer::Transpose => opened::<Transpose, M>(run, memory)?.map(AnyLayer::Transpose),
+    })
+}
+
+fn opened<P: Mapping, M: Memory + Drop>(
+    run: &mut Run<'_>,
+    memory: M,
+) -> anyhow::Result<Result<Window<P, M>, M>>
+    requires { M.Memory.coherent memory }
+    ensures { IfOk result (λ r. MatchResult r ⟦<Window<P, M> as Memory>⟧.coherent M.Memory.coherent) }
+{
+    let set_up = run.set_ups.next().context("a window has no board")?;
+    let mut board = vec![in run.heap; 0xFFu8; set_up.board]?;
+    match armed_set::<P>(&set_up.writes) {
+        Ok(set) => {
+            let window = Window::open(set, memory, &mut board);
+            write_opened(
+                &mut run.text,
+                set_up,
+                &window.report(),
+                window.size(),
+                &board,
+            )?;
+            Ok(Ok(window))
+        }
+        Err(refusal) => {
+            write_refused(&mut run.text, set_up, refusal, &board)?;
+            Ok(Err(memory))
         }
     }
 }

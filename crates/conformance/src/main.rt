@@ -3,6 +3,7 @@
 
 mod above;
 mod answers;
+mod any_layer;
 mod borrowed;
 mod case;
 mod reader;

@@ -11,6 +11,9 @@ use memory::Access;
 use std::alloc::Global;
 use std::{mem, str};
 
+// How high a stack may be.
+const MOST_LAYERS: usize = 4;
+
 // Where in a case the last line stood: what may follow it depends on this.
 #[derive(Clone, Copy, PartialEq, Eq, PartialOrd, Ord, Debug)]
 enum Part {
@@ -126,6 +129,9 @@ impl Reader {
             "checked" => Bottom::Checked,
             _ => bail!("there is no bottom '{bottom}'"),
         };
+        if layers.len() > MOST_LAYERS {
+            bail!("a stack has at most {MOST_LAYERS} layers");
+        }
         for word in layers {
             let layer = Layer::of(word).context(format_args!("there is no layer '{word}'"))?;
             self.case.layers.push(layer)?;
