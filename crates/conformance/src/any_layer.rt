@@ -1,5 +1,7 @@
 // A layer of the sort that a case says, over any memory. So a stack of any layers has one type for each height.
 ghost use Rattle.std.specs.Prelude.{IfOk, ⊤};
+ghost use Rattle.memory.specs.Up.{cells_up_formed};
+ghost use Rattle.window.specs.Laws.{shown_formed};
 ghost use Rattle.conformance.specs.AnyLayer.{cells_by, Holds, formed_by};
 
 use crate::answers::{write_cache_report, write_window_report};
@@ -57,7 +59,7 @@ impl<M: Memory> Memory for AnyLayer<M> {
 
     ghost coherent = { Holds ⟦<Cache<M> as Memory>⟧.coherent ⟦<Window<Direct, M> as Memory>⟧.coherent ⟦<Window<Colour, M> as Memory>⟧.coherent ⟦<Window<Stride, M> as Memory>⟧.coherent ⟦<Window<Transpose, M> as Memory>⟧.coherent };
 
-    ghost formed = { formed_by ⟦<Cache<M> as Memory>⟧.formed ⟦<Window<Direct, M> as Memory>⟧.formed ⟦<Window<Colour, M> as Memory>⟧.formed ⟦<Window<Stride, M> as Memory>⟧.formed ⟦<Window<Transpose, M> as Memory>⟧.formed };
+    ghost formed = { formed_by (λ c s. cells_up_formed _ (M.Memory.formed _ s.below)) (λ w s. shown_formed _ _ _ _ s.ready) (λ w s. shown_formed _ _ _ _ s.ready) (λ w s. shown_formed _ _ _ _ s.ready) (λ w s. shown_formed _ _ _ _ s.ready) };
 
     // Nobody asks here what a call does beyond the cells.
     ghost step = { λ before call after. ⊤ };
