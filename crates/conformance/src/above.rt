@@ -77,29 +77,41 @@ fn made<M: Memory + Drop>(
 {
     Ok(match layer {
         Layer::Cache => {
-            let cache = Cache::new(memory);
+            let cache = Box::new(run.heap, Cache::new(memory))?;
             writeln!(run.text, "cache {}", cache.size())?;
             Ok(AnyLayer::Cached(cache))
         }
-        Layer::Direct => opened::<Direct, M>(run, memory)?.map(AnyLayer::Direct),
-        Layer::Colour => opened::<Colour, M>(run, memory)?.map(AnyLayer::Colour),
-        Layer::Stride => opened::<Stride, M>(run, memory)?.map(AnyLayer::Stride),
-        Layer::Transpose => opened::<Transpose, M>(run, memory)?.map(AnyLayer::Transpose),
+        Layer::Direct => match opened::<Direct, M>(run, memory)? {
+            Ok(window) => Ok(AnyLayer::Direct(window)),
+            Err(memory) => Err(memory),
+        },
+        Layer::Colour => match opened::<Colour, M>(run, memory)? {
+            Ok(window) => Ok(AnyLayer::Colour(window)),
+            Err(memory) => Err(memory),
+        },
+        Layer::Stride => match opened::<Stride, M>(run, memory)? {
+            Ok(window) => Ok(AnyLayer::Stride(window)),
+            Err(memory) => Err(memory),
+        },
+        Layer::Transpose => match opened::<Transpose, M>(run, memory)? {
+            Ok(window) => Ok(AnyLayer::Transpose(window)),
+            Err(memory) => Err(memory),
+        },
     })
 }
 
 fn opened<P: Mapping, M: Memory + Drop>(
     run: &mut Run<'_>,
     memory: M,
-) -> anyhow::Result<Result<Window<P, M>, M>>
+) -> anyhow::Result<Result<Box<Window<P, M>>, M>>
     requires { M.Memory.coherent memory }
-    ensures { IfOk result (λ r. MatchResult r ⟦<Window<P, M> as Memory>⟧.coherent M.Memory.coherent) }
+    ensures { IfOk result (λ r. MatchResult r (λ b. ⟦<Window<P, M> as Memory>⟧.coherent b.value) M.Memory.coherent) }
 {
     let set_up = run.set_ups.next().context("a window has no board")?;
     let mut board = vec![in run.heap; 0xFFu8; set_up.board]?;
     match armed_set::<P>(&set_up.writes) {
         Ok(set) => {
-            let window = Window::open(set, memory, &mut board);
+            let window = Box::new(run.heap, Window::open(set, memory, &mut board))?;
             write_opened(
                 &mut run.text,
                 set_up,

@@ -1,4 +1,4 @@
-// A layer of the sort that a case says, over any memory. So a stack of any layers has one type for each height.
+// A layer of the sort that a case says, over any memory. So a stack of any layers has one type for each height, and behind a box one size.
 ghost use Rattle.std.specs.Prelude.{IfOk, ⊤};
 ghost use Rattle.memory.specs.Up.{cells_up_formed};
 ghost use Rattle.window.specs.Laws.{shown_formed};
@@ -17,11 +17,11 @@ use window::Window;
 
 #[derive(Drop)]
 pub(crate) enum AnyLayer<M: Memory> {
-    Cached(Cache<M>),
-    Direct(Window<Direct, M>),
-    Colour(Window<Colour, M>),
-    Stride(Window<Stride, M>),
-    Transpose(Window<Transpose, M>),
+    Cached(Box<Cache<M>>),
+    Direct(Box<Window<Direct, M>>),
+    Colour(Box<Window<Colour, M>>),
+    Stride(Box<Window<Stride, M>>),
+    Transpose(Box<Window<Transpose, M>>),
 }
 
 impl<M: Memory + Drop> AnyLayer<M> {
@@ -33,12 +33,12 @@ impl<M: Memory + Drop> AnyLayer<M> {
         match self {
             AnyLayer::Cached(cache) => {
                 write_cache_report(text, &cache.report())?;
-                Ok(cache.close())
+                Ok(Box::into_inner(cache).close())
             }
-            AnyLayer::Direct(window) => closed(window, text),
-            AnyLayer::Colour(window) => closed(window, text),
-            AnyLayer::Stride(window) => closed(window, text),
-            AnyLayer::Transpose(window) => closed(window, text),
+            AnyLayer::Direct(window) => closed(Box::into_inner(window), text),
+            AnyLayer::Colour(window) => closed(Box::into_inner(window), text),
+            AnyLayer::Stride(window) => closed(Box::into_inner(window), text),
+            AnyLayer::Transpose(window) => closed(Box::into_inner(window), text),
         }
     }
 }
