@@ -138,8 +138,18 @@ def run(words):
     return False
 
 
+def wanting():
+    """The first of the two programs that is not built, and how it is."""
+    for command, build in ((MODEL, "scripts/build_model.sh"), (LIBRARY, "rt run in crates/conformance")):
+        if not os.path.exists(command[0]):
+            return f"conformance: {command[0]} is wanting: it is built by {build}"
+    return None
+
+
 if __name__ == "__main__":
     os.chdir(os.path.join(os.path.dirname(os.path.abspath(__file__)), ".."))
+    if wanting():
+        sys.exit(wanting())
     try:
         sys.exit(0 if run(sys.argv[1:]) else 1)
     except KeyboardInterrupt:
