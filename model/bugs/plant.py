@@ -229,7 +229,7 @@ def plant(work, bug):
     try:
         with open(CASES) as cases:
             run = subprocess.run(
-                [work / "target/release/model", "answers"], stdin=cases, capture_output=True, text=True, timeout=20
+                [work / "target/release/model", "answers"], stdin=cases, capture_output=True, text=True, timeout=120
             )
     except subprocess.TimeoutExpired:
         return "hangs", 1

@@ -13,7 +13,6 @@ use direct::Direct;
 use mapping::Mapping;
 use memory::Memory;
 use std::alloc::Global;
-use std::marker::PhantomData;
 use std::slice;
 use stride::Stride;
 use transpose::Transpose;
@@ -39,8 +38,15 @@ pub(crate) trait Above<M: Memory> {
 // No layer: the calls are made here.
 pub(crate) struct Top;
 
-// The layer that the case has next, and what stands above it; or none.
-pub(crate) struct UpTo<A>(PhantomData<A>);
+// At most so many layers. Each is a type by itself, and not one type within another: a proof about four of those would have to go
+// through all that each of them takes.
+pub(crate) struct One;
+
+pub(crate) struct Two;
+
+pub(crate) struct Three;
+
+pub(crate) struct Four;
 
 impl<M: Memory + Drop> Above<M> for Top {
     fn play(run: &mut Run<'_>, memory: M) -> anyhow::Result<M> {
@@ -51,18 +57,47 @@ impl<M: Memory + Drop> Above<M> for Top {
     }
 }
 
-impl<M: Memory + Drop, A: Above<AnyLayer<M>>> Above<M> for UpTo<A> {
+impl<M: Memory + Drop> Above<M> for One {
     fn play(run: &mut Run<'_>, memory: M) -> anyhow::Result<M> {
-        match run.layers.next() {
-            None => Top::play(run, memory),
-            Some(layer) => match made(run, *layer, memory)? {
-                Ok(layer) => {
-                    let layer = A::play(run, layer)?;
-                    Ok(layer.close(&mut run.text)?)
-                }
-                Err(memory) => Ok(memory),
-            },
-        }
+        play_next::<Top, M>(run, memory)
+    }
+}
+
+impl<M: Memory + Drop> Above<M> for Two {
+    fn play(run: &mut Run<'_>, memory: M) -> anyhow::Result<M> {
+        play_next::<One, M>(run, memory)
+    }
+}
+
+impl<M: Memory + Drop> Above<M> for Three {
+    fn play(run: &mut Run<'_>, memory: M) -> anyhow::Result<M> {
+        play_next::<Two, M>(run, memory)
+    }
+}
+
+impl<M: Memory + Drop> Above<M> for Four {
+    fn play(run: &mut Run<'_>, memory: M) -> anyhow::Result<M> {
+        play_next::<Three, M>(run, memory)
+    }
+}
+
+// The layer that the case has next, and what stands above it; or none.
+fn play_next<A: Above<AnyLayer<M>>, M: Memory + Drop>(
+    run: &mut Run<'_>,
+    memory: M,
+) -> anyhow::Result<M>
+    requires { M.Memory.coherent memory }
+    ensures { IfOk result M.Memory.coherent }
+{
+    match run.layers.next() {
+        None => Top::play(run, memory),
+        Some(layer) => match made(run, *layer, memory)? {
+            Ok(layer) => {
+                let layer = A::play(run, layer)?;
+                Ok(layer.close(&mut run.text)?)
+            }
+            Err(memory) => Ok(memory),
+        },
     }
 }
 

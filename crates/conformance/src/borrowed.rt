@@ -61,7 +61,7 @@ fn cell(bottom: Bottom, borrowed: &mut [u8], a: u64) -> anyhow::Result<&mut u8> 
 
 // The check byte of each whole line becomes the exclusive or of its cells.
 pub(crate) fn seal(bottom: Bottom, borrowed: &mut [u8]) {
-    if bottom == Bottom::Plain {
+    if matches!(bottom, Bottom::Plain) {
         return;
     }
     for line in borrowed.chunks_exact_mut(CHECKED_LINE) {

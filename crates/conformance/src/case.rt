@@ -4,13 +4,13 @@ use card::RegisterWrite;
 use std::alloc::Global;
 use std::fmt;
 
-#[derive(Clone, Copy, PartialEq, Eq, Debug)]
+#[derive(Clone, Copy)]
 pub(crate) enum Bottom {
     Plain,
     Checked,
 }
 
-#[derive(Clone, Copy, PartialEq, Eq, Debug)]
+#[derive(Clone, Copy, PartialEq)]
 pub(crate) enum Layer {
     Cache,
     Direct,

@@ -15,7 +15,7 @@ use std::{mem, str};
 const MOST_LAYERS: usize = 4;
 
 // Where in a case the last line stood: what may follow it depends on this.
-#[derive(Clone, Copy, PartialEq, Eq, PartialOrd, Ord, Debug)]
+#[derive(Clone, Copy, PartialEq, PartialOrd)]
 enum Part {
     Outside,
     Name,

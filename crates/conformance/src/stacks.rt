@@ -1,5 +1,5 @@
 // Plays a case: its bottom, the stack over it, and what is said at the end.
-use crate::above::{Above, Run, Top, UpTo};
+use crate::above::{Above, Four, Run};
 use crate::borrowed::digest;
 use crate::case::{Bottom, Case};
 use crate::words::Hexadecimal;
@@ -7,9 +7,6 @@ use checked::CheckByte;
 use memory::{ByteMemory, LineFormat, Memory};
 use plain::CellsAlone;
 use std::alloc::Global;
-
-// Of no layer up to four. Each height more is a type more, over either bottom.
-type Stack = UpTo<UpTo<UpTo<UpTo<Top>>>>;
 
 // The answers to a case.
 pub(crate) fn play_case(heap: Global, case: Case) -> anyhow::Result<String> {
@@ -48,6 +45,6 @@ pub(crate) fn play_case(heap: Global, case: Case) -> anyhow::Result<String> {
 fn play_over<F: LineFormat>(run: &mut Run<'_>, bytes: &mut [u8]) -> anyhow::Result<()> {
     let bottom = ByteMemory::<F>::new(bytes);
     writeln!(run.text, "bottom {}", bottom.size())?;
-    Stack::play(run, bottom)?;
+    Four::play(run, bottom)?;
     Ok(())
 }
