@@ -2,12 +2,19 @@
 # make test: the gate. Its last line is 'N passed, 0 failed'.
 # make bench: what a line through a window costs, beside plain Rust; docs/performance.md has the figures.
 # make examples: build the static library, and the programs in C and Rust that use it, and run them. It wants cc and cargo.
-.PHONY: run test bench examples
+# make cases SEED=.. COUNT=..: so many random cases of this seed, played on the model and on the proved library.
+# make fuzz MINUTES=..: cases of fresh seeds, for so long, or without MINUTES until it is stopped.
+.PHONY: run test bench examples cases fuzz conformance
+
+SEED = 1
+COUNT = 1000
+MINUTES =
 
 run:
 	cd crates/invoice && rt run < stdin
 
 test:
+	scripts/model_answers.sh
 	.ci/run
 
 bench:
@@ -17,3 +24,14 @@ bench:
 
 examples:
 	scripts/examples.sh
+
+# both programs that play cases
+conformance:
+	scripts/build_model.sh
+	cd crates/conformance && rt run < stdin > /dev/null
+
+cases: conformance
+	scripts/conformance.py cases $(SEED) $(COUNT)
+
+fuzz: conformance
+	scripts/conformance.py fuzz $(MINUTES)

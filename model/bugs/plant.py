@@ -229,7 +229,7 @@ def plant(work, bug):
     try:
         with open(CASES) as cases:
             run = subprocess.run(
-                [work / "target/release/model", "answers"], stdin=cases, capture_output=True, text=True, timeout=20
+                [work / "target/release/model", "answers"], stdin=cases, capture_output=True, text=True, timeout=120
             )
     except subprocess.TimeoutExpired:
         return "hangs", 1
@@ -242,6 +242,9 @@ def plant(work, bug):
 
 
 def main():
+    if shutil.which("cargo") is None:
+        print("plant: cargo is wanting: install Rust, of 1.85 or later, as https://rustup.rs says")
+        return 1
     word = sys.argv[1] if len(sys.argv) > 1 else ""
     bugs = [bug for bug in BUGS + UNSEEN if word in bug[0] or word in bug[1] or word in bug[2]]
     folders = [MODEL / f"target/bugs/{i}" for i in range(WORKERS)]

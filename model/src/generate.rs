@@ -13,28 +13,16 @@ use crate::random::Random;
 
 pub use twins::{TWIN, differs, twin};
 
-/// The stacks of three and four layers, from the bottom up; of fewer layers there are all.
-const TALL: [&str; 20] = [
-    "csc", "scs", "dsc", "dcs", "ssc", "cds", "osc", "tcd", "cod", "stc", "cscs", "scsc", "cdsc",
-    "dscc", "ccsd", "dost", "sssc", "cssc", "octc", "ddsc",
-];
+/// The most layers of a stack.
+const HIGHEST: u64 = 4;
+
+/// Layers, a cache as often as windows of two of the mappings.
+const LETTERS: [char; 6] = ['c', 'c', 'd', 'o', 's', 't'];
 
 /// What is made wrong in a window: a refusal by its number, or an extent at its edge that arms.
 const MISHAPS: [u64; 11] = [11, 12, 13, 14, 15, 21, 22, 23, 24, 25, FAR];
 /// The mishap that is none: an extent of just 2^34, or a little less.
 pub const FAR: u64 = 0;
-
-/// The letters of every stack of layers that the format knows.
-pub fn stacks() -> Vec<String> {
-    let letters = ["c", "d", "o", "s", "t"];
-    let mut stacks = vec![String::new()];
-    stacks.extend(letters.map(String::from));
-    for below in letters {
-        stacks.extend(letters.map(|above| format!("{below}{above}")));
-    }
-    stacks.extend(TALL.map(String::from));
-    stacks
-}
 
 /// The random case of a seed and an index: the same one, however many are made.
 pub fn case(seed: u64, index: u64) -> Case {
@@ -79,8 +67,7 @@ pub fn case(seed: u64, index: u64) -> Case {
 /// A case with its bottom and the letters of its layers, and no window set up.
 fn blank(random: &mut Random, name: String) -> Case {
     let kind = random.pick(&[Kind::Plain, Kind::Checked, Kind::Checked]);
-    let stack = random.pick(&stacks());
-    let layers: Vec<LayerKind> = stack.chars().filter_map(LayerKind::of).collect();
+    let layers = stack(random);
     let windows = layers.iter().filter(|l| **l != LayerKind::Cache).count() as u64;
     let cells = match windows {
         0 => LINE * random.pick(&[0, 1, 2, 3, 4, 9, 17, 24, 33, 40, 70, 129]),
@@ -97,6 +84,13 @@ fn blank(random: &mut Random, name: String) -> Case {
         calls: Vec::new(),
         shows: Vec::new(),
     }
+}
+
+/// Any layers, from the bottom up: more often two and more than one or none.
+fn stack(random: &mut Random) -> Vec<LayerKind> {
+    let height = random.pick(&[0, 1, 1, 2, 2, 2, 3, 3, 3, HIGHEST, HIGHEST, HIGHEST]);
+    let letters = (0..height).map(|_| random.pick(&LETTERS));
+    letters.filter_map(LayerKind::of).collect()
 }
 
 fn pages(random: &mut Random, windows: u64) -> u64 {
@@ -173,15 +167,8 @@ mod tests {
     use crate::play::answers;
 
     #[test]
-    fn stacks_of_the_format() {
-        let stacks = stacks();
-        assert_eq!(stacks.len(), 1 + 5 + 25 + 20);
-        assert!(
-            stacks
-                .iter()
-                .flat_map(|s| s.chars())
-                .all(|c| LayerKind::of(c).is_some())
-        );
+    fn each_letter_is_a_layer() {
+        assert!(LETTERS.into_iter().all(|c| LayerKind::of(c).is_some()));
     }
 
     /// The same case for the same seed; it is read as it was written; and its answers are those of what was read. Built for

@@ -24,10 +24,10 @@ pub fn count(counts: &mut Counts, case: &Case) {
     let events = events(case);
     let accepted = |e: &&Event| matches!(e, Event::Read(Ok(_)) | Event::Written(Ok(())));
     let height = stack.len();
-    add(match events.iter().any(|e| accepted(&e)) {
-        true => format!("stack {kind} {}", or_none(&stack)),
-        false => format!("no call accepted, {kind} under {height} layers"),
-    });
+    match events.iter().any(|e| accepted(&e)) {
+        true => stack_things(kind, &stack).into_iter().for_each(&mut add),
+        false => add(format!("no call accepted, {kind} under {height} layers")),
+    }
     for event in &events {
         for thing in things(event, &stack) {
             add(thing);
@@ -35,11 +35,21 @@ pub fn count(counts: &mut Counts, case: &Case) {
     }
 }
 
-fn or_none(stack: &str) -> &str {
-    match stack {
-        "" => "-",
-        _ => stack,
+/// The order of windows, `w`, and caches over the bottom, and which layer stands right over which.
+fn stack_things(kind: &str, stack: &str) -> Vec<String> {
+    let order: String = stack
+        .chars()
+        .map(|c| if c == 'c' { 'c' } else { 'w' })
+        .collect();
+    let mut things = vec![format!("stack {kind} {order}").trim_end().to_string()];
+    let mut below = kind.to_string();
+    for letter in stack.chars() {
+        things.push(format!("stack has {letter} over {below}"));
+        below = letter.to_string();
     }
+    things.sort();
+    things.dedup();
+    things
 }
 
 /// What an event shows, in words that are counted.

@@ -185,19 +185,26 @@ fn break_condition(random: &mut Random, kind: Kind, values: &mut Vec<u64>) {
 
 fn break_colour(random: &mut Random, values: &mut [u64]) {
     let (way, colour) = (values[2], values[3]);
-    match random.below(8) {
+    match random.below(10) {
         0 => values[2] = random.pick(&[0, 2048, 12288, way + 1]),
-        1 => values[3] = random.pick(&[0, 2048, colour - 1, 12288]),
-        2 => {
+        1 => values[3] = random.pick(&[0, colour - 1, 12288]),
+        // Too small alone.
+        2 => values[3] = 2048,
+        3 => {
+            // No power of two alone.
+            values[2] = 3 * way;
+            values[0] = 3 * way;
+        }
+        4 => {
             // Where the colour has room in the way, the offset alone is wrong.
             values[2] = 2 * way;
             values[0] = 2 * way;
             values[4] += random.pick(&[1, 128, 2048]);
         }
-        3 => values[4] = way - colour + PAGE,
-        4 => values[0] += LINE,
-        5 => values[0] -= LINE,
-        6 => values[3] = 2 * way,
+        5 => values[4] = way - colour + PAGE,
+        6 => values[0] += LINE,
+        7 => values[0] -= LINE,
+        8 => values[3] = 2 * way,
         _ => values[0] = way / 2,
     }
 }
