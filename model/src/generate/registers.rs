@@ -196,10 +196,10 @@ fn break_colour(random: &mut Random, values: &mut [u64]) {
             values[0] = 3 * way;
         }
         4 => {
-            // Where the colour has room in the way, the offset alone is wrong.
+            // Where the colour has room in the way, the offset alone is wrong: a smaller power of two divides it.
             values[2] = 2 * way;
             values[0] = 2 * way;
-            values[4] += random.pick(&[1, 128, 2048]);
+            values[4] += random.pick(&[128, 2048]);
         }
         5 => values[4] = way - colour + PAGE,
         6 => values[0] += LINE,
