@@ -4,6 +4,13 @@ ghost use Rattle.card_c.specs.Setup.{mapping_type, line_format, cache_place, cho
 
 use crate::answer::CardRefusal;
 
+// Why a number is refused that chooses nothing. No other refusal has these.
+const UNKNOWN_MAPPING: u64 = 31;
+
+const UNKNOWN_FORMAT: u64 = 32;
+
+const UNKNOWN_CACHE: u64 = 33;
+
 // docs/linking.md, "Setting up", has the numbers.
 #[repr(C)]
 #[derive(Clone, Copy)]
@@ -53,9 +60,9 @@ impl CardSetup {
         ensures { result ≡ choices self.now.mapping self.now.format self.now.cache }
     {
         Ok(Choices {
-            mapping: mapping_type(self.mapping).ok_or(CardRefusal::choice(31))?,
-            format: line_format(self.format).ok_or(CardRefusal::choice(32))?,
-            cache: cache_place(self.cache).ok_or(CardRefusal::choice(33))?,
+            mapping: mapping_type(self.mapping).ok_or(CardRefusal::choice(UNKNOWN_MAPPING))?,
+            format: line_format(self.format).ok_or(CardRefusal::choice(UNKNOWN_FORMAT))?,
+            cache: cache_place(self.cache).ok_or(CardRefusal::choice(UNKNOWN_CACHE))?,
         })
     }
 }
