@@ -1,4 +1,3 @@
-pub mod Ones
 pub mod Parts
 pub mod Lengths
 pub mod CacheCalls

@@ -8,7 +8,7 @@ ghost use Rattle.window_list.specs.Played.{call_behind};
 ghost use Rattle.span.specs.Span.{behind};
 
 use mapping::{Mapping, WindowAddress};
-use memory::{Fault, Memory, check_run};
+use memory::{Fault, Memory};
 use page_table::Tlb;
 use transfer::{read_run, write_run};
 
@@ -30,7 +30,6 @@ pub(crate) fn read_one<P: Mapping, M: Memory>(
     ensures reached { Reached M.Memory.step below.old below.new }
     ensures ready { Ready (P.Mapping.meaning mapping.now) (M.Memory.meaning below.new) tlb.new }
 {
-    check_run(mapping.image_size(), a.0, buffer.len())?;
     read_run(mapping, below, tlb, a, buffer)
 }
 
@@ -51,6 +50,5 @@ pub(crate) fn write_one<P: Mapping, M: Memory>(
     ensures reached { Reached M.Memory.step below.old below.new }
     ensures ready { Ready (P.Mapping.meaning mapping.now) (M.Memory.meaning below.new) tlb.new }
 {
-    check_run(mapping.image_size(), a.0, bytes.len())?;
     write_run(mapping, below, tlb, a, bytes)
 }
