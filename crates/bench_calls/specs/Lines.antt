@@ -4,6 +4,7 @@
 -- after_writes m n bs: the meaning after writes of bs into each of the first n lines
 -- all_written m n bs: whether each of these writes is accepted
 -- each_read r n, each_written r n bs: whether there is a memory r, and it accepts these calls
+-- last_of r n b: what the buffer b holds after these reads of the memory r, if there is one
 use Rattle.std.specs.Prelude.{ℕ, zero, suc, ◌*◌, Bool, true, false, ◌&&◌, List, Some, None, Option, is_ok}
 use Rattle.memory.specs.Meaning.{Meaning}
 use Rattle.memory.specs.Calls.{read_answer, write_answer, delivered, written}
@@ -31,3 +32,7 @@ each_read None n = false
 abbrev pub each_written : Option Meaning → ℕ → List ℕ → Bool
 each_written (Some m) n bs = all_written m n bs
 each_written None n bs = false
+
+abbrev pub last_of : Option Meaning → ℕ → List ℕ → List ℕ
+last_of (Some m) n b = last_read m n b
+last_of None n b = b

@@ -1,7 +1,7 @@
 // The first lines of any memory, one call for each.
 ghost use Rattle.std.specs.Prelude.{◌≡◌, IfSome};
 ghost use Rattle.std.specs.Option.{option_map};
-ghost use Rattle.bench_calls.specs.Lines.{all_read, last_read, after_writes, all_written, each_read, each_written};
+ghost use Rattle.bench_calls.specs.Lines.{all_read, last_read, after_writes, all_written, each_read, each_written, last_of};
 
 use memory::Memory;
 use units::LINE;
@@ -13,7 +13,8 @@ pub(crate) fn read_each<M: Memory + Drop>(
     line: &mut [u8; 128],
 ) -> bool
     requires { IfSome memory M.Memory.coherent }
-    ensures { result ≡ each_read (option_map M.Memory.meaning memory) lines }
+    ensures answer { result ≡ each_read (option_map M.Memory.meaning memory) lines }
+    ensures line { line.new ≡ last_of (option_map M.Memory.meaning memory) lines line.old }
 {
     match memory {
         Some(mut memory) => read_lines(&mut memory, lines, line),

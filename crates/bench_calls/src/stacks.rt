@@ -10,7 +10,7 @@ ghost use Rattle.colour.specs.Colour.{colour_rules};
 ghost use Rattle.stride.specs.Stride.{stride_rules};
 ghost use Rattle.transpose.specs.Transpose.{transpose_rules};
 ghost use Rattle.bench_calls.specs.Image.{image, image_over};
-ghost use Rattle.bench_calls.specs.Lines.{each_read, each_written};
+ghost use Rattle.bench_calls.specs.Lines.{each_read, each_written, last_of};
 
 use crate::lines::{read_each, write_each};
 use crate::opened::opened;
@@ -32,7 +32,8 @@ pub extern "C" fn bench_read_stride(
     lines: u32,
     line: &mut [u8; 128],
 ) -> bool
-    ensures { result ≡ each_read (image stride_rules registers.now (plain_meaning bytes.old) (length board.old)) lines }
+    ensures answer { result ≡ each_read (image stride_rules registers.now (plain_meaning bytes.old) (length board.old)) lines }
+    ensures line { line.new ≡ last_of (image stride_rules registers.now (plain_meaning bytes.old) (length board.old)) lines line.old }
 {
     let window = opened::<Stride, Plain>(registers, Plain::new(bytes), board);
     read_each(window, lines, line)
@@ -62,7 +63,8 @@ pub extern "C" fn bench_read_direct(
     lines: u32,
     line: &mut [u8; 128],
 ) -> bool
-    ensures { result ≡ each_read (image direct_rules registers.now (plain_meaning bytes.old) (length board.old)) lines }
+    ensures answer { result ≡ each_read (image direct_rules registers.now (plain_meaning bytes.old) (length board.old)) lines }
+    ensures line { line.new ≡ last_of (image direct_rules registers.now (plain_meaning bytes.old) (length board.old)) lines line.old }
 {
     let window = opened::<Direct, Plain>(registers, Plain::new(bytes), board);
     read_each(window, lines, line)
@@ -76,7 +78,8 @@ pub extern "C" fn bench_read_colour(
     lines: u32,
     line: &mut [u8; 128],
 ) -> bool
-    ensures { result ≡ each_read (image colour_rules registers.now (plain_meaning bytes.old) (length board.old)) lines }
+    ensures answer { result ≡ each_read (image colour_rules registers.now (plain_meaning bytes.old) (length board.old)) lines }
+    ensures line { line.new ≡ last_of (image colour_rules registers.now (plain_meaning bytes.old) (length board.old)) lines line.old }
 {
     let window = opened::<Colour, Plain>(registers, Plain::new(bytes), board);
     read_each(window, lines, line)
@@ -90,7 +93,8 @@ pub extern "C" fn bench_read_transpose(
     lines: u32,
     line: &mut [u8; 128],
 ) -> bool
-    ensures { result ≡ each_read (image transpose_rules registers.now (plain_meaning bytes.old) (length board.old)) lines }
+    ensures answer { result ≡ each_read (image transpose_rules registers.now (plain_meaning bytes.old) (length board.old)) lines }
+    ensures line { line.new ≡ last_of (image transpose_rules registers.now (plain_meaning bytes.old) (length board.old)) lines line.old }
 {
     let window = opened::<Transpose, Plain>(registers, Plain::new(bytes), board);
     read_each(window, lines, line)
@@ -105,7 +109,8 @@ pub extern "C" fn bench_read_checked(
     lines: u32,
     line: &mut [u8; 128],
 ) -> bool
-    ensures { result ≡ each_read (image stride_rules registers.now (checked_meaning bytes.old) (length board.old)) lines }
+    ensures answer { result ≡ each_read (image stride_rules registers.now (checked_meaning bytes.old) (length board.old)) lines }
+    ensures line { line.new ≡ last_of (image stride_rules registers.now (checked_meaning bytes.old) (length board.old)) lines line.old }
 {
     let window = opened::<Stride, Checked>(registers, Checked::new(bytes), board);
     read_each(window, lines, line)
@@ -120,7 +125,8 @@ pub extern "C" fn bench_read_over_cache(
     lines: u32,
     line: &mut [u8; 128],
 ) -> bool
-    ensures { result ≡ each_read (image stride_rules registers.now (cells_up (plain_meaning bytes.old)) (length board.old)) lines }
+    ensures answer { result ≡ each_read (image stride_rules registers.now (cells_up (plain_meaning bytes.old)) (length board.old)) lines }
+    ensures line { line.new ≡ last_of (image stride_rules registers.now (cells_up (plain_meaning bytes.old)) (length board.old)) lines line.old }
 {
     let cache = Cache::new(Plain::new(bytes));
     let window = opened::<Stride, Cache<Plain>>(registers, cache, board);
@@ -136,7 +142,8 @@ pub extern "C" fn bench_read_cached(
     lines: u32,
     line: &mut [u8; 128],
 ) -> bool
-    ensures { result ≡ each_read (option_map cells_up (image stride_rules registers.now (plain_meaning bytes.old) (length board.old))) lines }
+    ensures answer { result ≡ each_read (option_map cells_up (image stride_rules registers.now (plain_meaning bytes.old) (length board.old))) lines }
+    ensures line { line.new ≡ last_of (option_map cells_up (image stride_rules registers.now (plain_meaning bytes.old) (length board.old))) lines line.old }
 {
     let cache = match opened::<Stride, Plain>(registers, Plain::new(bytes), board) {
         Some(window) => Some(Cache::new(window)),
@@ -156,7 +163,8 @@ pub extern "C" fn bench_read_over_window(
     lines: u32,
     line: &mut [u8; 128],
 ) -> bool
-    ensures { result ≡ each_read (image_over stride_rules upper.now (image direct_rules lower.now (plain_meaning bytes.old) (length lower_board.old)) (length upper_board.old)) lines }
+    ensures answer { result ≡ each_read (image_over stride_rules upper.now (image direct_rules lower.now (plain_meaning bytes.old) (length lower_board.old)) (length upper_board.old)) lines }
+    ensures line { line.new ≡ last_of (image_over stride_rules upper.now (image direct_rules lower.now (plain_meaning bytes.old) (length lower_board.old)) (length upper_board.old)) lines line.old }
 {
     let window = match opened::<Direct, Plain>(lower, Plain::new(bytes), lower_board) {
         Some(below) => opened::<Stride, Window<Direct, Plain>>(upper, below, upper_board),

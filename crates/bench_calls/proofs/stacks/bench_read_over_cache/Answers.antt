@@ -5,15 +5,24 @@ use Rattle.memory.specs.Up.{cells_up}
 use Rattle.plain.specs.Plain.{plain_meaning}
 use Rattle.stride.specs.Stride.{stride_rules}
 use Rattle.bench_calls.specs.Image.{image}
-use Rattle.bench_calls.specs.Lines.{each_read}
+use Rattle.bench_calls.specs.Lines.{each_read, last_of}
 use Rattle.bench_calls.proofs.stacks.bench_read_over_cache.Goals as goal
 
 -- the cache stands over the bytes as they were lent
-pub returns : goal.returns
-returns c =
+pub returns-clause-answer : goal.returns-clause-answer
+returns-clause-answer c =
     let over : Meaning → Option Meaning = λ m. image stride_rules c.args.registers.now (cells_up m) (length c.args.board.now) in
-    c.read_each.ensures
+    c.read_each.ensures.answer
     ∙ ap (λ r. each_read r c.args.lines)
+    (c.opened-window.ensures.image
+    ∙ ap (λ p. over (plain_meaning p.bytes.now)) c.new-cache.ensures.below
+    ∙ ap (λ bs. over (plain_meaning bs)) c.new.ensures.bytes.holds)
+
+pub returns-clause-line : goal.returns-clause-line
+returns-clause-line c =
+    let over : Meaning → Option Meaning = λ m. image stride_rules c.args.registers.now (cells_up m) (length c.args.board.now) in
+    c.read_each.ensures.line
+    ∙ ap (λ r. last_of r c.args.lines c.args.line.now)
     (c.opened-window.ensures.image
     ∙ ap (λ p. over (plain_meaning p.bytes.now)) c.new-cache.ensures.below
     ∙ ap (λ bs. over (plain_meaning bs)) c.new.ensures.bytes.holds)
