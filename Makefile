@@ -2,7 +2,8 @@
 # make test: the gate. Its last line is 'N passed, 0 failed'.
 # make bench: what a line through a window costs, beside plain Rust; docs/performance.md has the figures.
 # make examples: build the static library, and the programs in C and Rust that use it, and run them. It wants cc and cargo.
-# make cases SEED=.. COUNT=..: so many random cases of this seed, played on the model and on the proved library.
+# make cases SEED=.. COUNT=..: so many random cases of this seed, with the model's answers, in out/cases, and what occurs in them; then
+# they are played on the proved library.
 # make fuzz MINUTES=..: cases of fresh seeds, for so long, or without MINUTES until it is stopped.
 .PHONY: run test bench examples cases fuzz conformance
 

@@ -1,7 +1,7 @@
 #!/usr/bin/env python3
 """Plays cases on the model and on the proved library, and compares their answers. docs/cases.md has the format.
 
-usage: scripts/conformance.py cases SEED COUNT    random cases of this seed
+usage: scripts/conformance.py cases SEED COUNT    random cases of this seed, and the model's answers, which out/cases keeps; and what occurs in them
        scripts/conformance.py fuzz [MINUTES]      cases of fresh seeds, for so long or until it is stopped
        scripts/conformance.py play FILE           the cases of a file
 
@@ -10,13 +10,16 @@ built: scripts/build_model.sh, and rt run in crates/conformance.
 """
 
 import difflib
+import functools
 import os
 import subprocess
 import sys
 import time
 
-MODEL = ["model/target/release/model", "answers"]
-LIBRARY = ["crates/conformance/out/conformance"]
+MODEL = ("model/target/release/model", "answers")
+COUNTS = ("model/target/release/model", "stats")
+LIBRARY = ("crates/conformance/out/conformance",)
+WRITTEN = "out/cases"
 KEPT = "out/failing"
 # cases of one seed in a round of fuzz
 ROUND = 500
@@ -25,15 +28,29 @@ LOOSE = {"fill", "cells", "clear", "seal", "flip", "register", "read", "write", 
 
 
 def random_cases(seed, count):
-    command = [MODEL[0], "cases", str(seed), str(count)]
+    command = (MODEL[0], "cases", str(seed), str(count))
     return subprocess.run(command, stdout=subprocess.PIPE, text=True, check=True).stdout
 
 
+@functools.lru_cache(maxsize=4)
 def answers(command, text):
     """What a program answers, and where it fails also how."""
     done = subprocess.run(command, input=text, capture_output=True, text=True)
     failed = f"status {done.returncode}: {done.stderr}" if done.returncode else ""
     return done.stdout + failed
+
+
+def write_cases(seed, count):
+    """Writes random cases with the model's answers, and shows what occurs in them. Answers the cases."""
+    text = random_cases(seed, count)
+    os.makedirs(WRITTEN, exist_ok=True)
+    path = os.path.join(WRITTEN, f"{seed}-{count}")
+    for name, content in ((path + ".cases", text), (path + ".answers", answers(MODEL, text))):
+        with open(name, "w", encoding="ascii") as file:
+            file.write(content)
+    print(answers(COUNTS, text), end="")
+    print(f"The cases are in {path}.cases, the model's answers in {path}.answers; above is how often each thing occurs in them.", flush=True)
+    return text
 
 
 def differ(text):
@@ -126,7 +143,7 @@ def fuzz(minutes):
 def run(words):
     match words:
         case ["cases", seed, count]:
-            return play(random_cases(seed, count))
+            return play(write_cases(seed, count))
         case ["play", path]:
             with open(path, encoding="ascii") as file:
                 return play(file.read())
