@@ -124,7 +124,7 @@ fn sets_and_ages(rt: HostRuntime) -> Result<(), Fail> {
     check_over(heap, 24, &steps)
 }
 
-// Writes to a held line, to a prefetched one, and to one that is not held, and calls that the cache itself refuses.
+// Writes to a held line, and to a prefetched one.
 #[test]
 fn writes(rt: HostRuntime) -> Result<(), Fail> {
     check_over(
@@ -139,33 +139,33 @@ fn writes(rt: HostRuntime) -> Result<(), Fail> {
             // line 1 is dropped, which was prefetched
             (write(128, 1), [3, 1, 1, 333]),
             (read(128, 2), [4, 1, 2, 250]),
-            (
-                refused(Access::Write, 126, 4, Cause::BadRun, 0),
-                [4, 1, 2, 250],
-            ),
             (read(0, 128), [5, 2, 2, 400]),
-            (
-                refused(Access::Write, 3072, 1, Cause::PastEnd, 0),
-                [5, 2, 2, 400],
-            ),
-            (
-                refused(Access::Read, 126, 4, Cause::BadRun, 0),
-                [5, 2, 2, 400],
-            ),
-            (
-                refused(Access::Read, 0, 0, Cause::BadRun, 0),
-                [5, 2, 2, 400],
-            ),
-            (
-                refused(Access::Read, 3072, 1, Cause::PastEnd, 0),
-                [5, 2, 2, 400],
-            ),
-            (write(2944, 128), [5, 2, 2, 400]),
+        ],
+    )
+}
+
+// Calls that the cache itself refuses, among which nothing is dropped; and the last line, which has no next one.
+#[test]
+fn refused_runs(rt: HostRuntime) -> Result<(), Fail> {
+    let bad = |access, a, n| refused(access, a, n, Cause::BadRun, 0);
+    let past = |access, a, n| refused(access, a, n, Cause::PastEnd, 0);
+    check_over(
+        rt.alloc(),
+        24,
+        &[
+            (read(0, 128), [1, 0, 1, 0]),
+            (bad(Access::Write, 126, 4), [1, 0, 1, 0]),
+            (read(128, 128), [2, 1, 2, 500]),
+            (past(Access::Write, 3072, 1), [2, 1, 2, 500]),
+            (bad(Access::Read, 126, 4), [2, 1, 2, 500]),
+            (bad(Access::Read, 0, 0), [2, 1, 2, 500]),
+            (past(Access::Read, 3072, 1), [2, 1, 2, 500]),
+            (write(2944, 128), [2, 1, 2, 500]),
             // line 24 lies past the end
-            (read(2944, 128), [6, 2, 2, 333]),
-            (read(3071, 1), [7, 3, 2, 428]),
+            (read(2944, 128), [3, 1, 2, 333]),
+            (read(3071, 1), [4, 2, 2, 500]),
             // line 2 was prefetched
-            (read(256, 1), [8, 4, 3, 500]),
+            (read(256, 1), [5, 3, 3, 600]),
         ],
     )
 }
