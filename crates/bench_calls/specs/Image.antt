@@ -3,7 +3,8 @@
 -- image rules os m n: the meaning of the window by these values over the memory m, opened with a board of n bytes, or nothing where
 -- the registers do not arm
 -- image_over rules os r n: the same over the memory r, which may be nothing
-use Rattle.std.specs.Prelude.{ℕ, cond, List, Some, None, Option, is_ok, slice_index}
+-- board_after w b: the board that held b, where w is the window that was opened with it, or nothing
+use Rattle.std.specs.Prelude.{ℕ, cond, List, length, replicate, Some, None, Option, is_ok, slice_index}
 use Rattle.std.specs.Option.{option_map}
 use Rattle.memory.specs.Meaning.{Meaning}
 use Rattle.mapping.specs.Registers.{cleared, registers_after}
@@ -30,3 +31,8 @@ image rules os m n = option_map (λ rs. seen (layout_of rules rs) m n) (armed_va
 abbrev pub image_over : Rules → List ℕ → Option Meaning → ℕ → Option Meaning
 image_over rules os (Some m) n = image rules os m n
 image_over rules os None n = None
+
+-- an opening clears it, whatever it answers
+abbrev pub board_after : Option Meaning → List ℕ → List ℕ
+board_after (Some w) b = replicate (length b) 0
+board_after None b = b

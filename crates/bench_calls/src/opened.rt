@@ -1,7 +1,7 @@
 // A window from the values of its registers.
 ghost use Rattle.std.specs.Prelude.{◌≡◌, length, IfSome};
 ghost use Rattle.std.specs.Option.{option_map};
-ghost use Rattle.bench_calls.specs.Image.{offered, armed_values, image};
+ghost use Rattle.bench_calls.specs.Image.{offered, armed_values, image, board_after};
 
 use mapping::{ArmedSet, Mapping, RegisterSet};
 use memory::Memory;
@@ -15,6 +15,7 @@ pub(crate) fn opened<P: Mapping, M: Memory + Drop>(
 ) -> Option<Window<P, M>>
     requires { M.Memory.coherent below }
     ensures image { option_map (λ w. ⟦<Window<P, M> as Memory>⟧.meaning w) result ≡ image P.Registers.rules registers.now (M.Memory.meaning below) (length board.old) }
+    ensures board { board.new ≡ board_after (image P.Registers.rules registers.now (M.Memory.meaning below) (length board.old)) board.old }
     ensures coherent { IfSome result (λ w. ⟦<Window<P, M> as Memory>⟧.coherent w) }
 {
     let set = armed_set::<P>(registers)?;

@@ -9,7 +9,7 @@ ghost use Rattle.direct.specs.Direct.{direct_rules};
 ghost use Rattle.colour.specs.Colour.{colour_rules};
 ghost use Rattle.stride.specs.Stride.{stride_rules};
 ghost use Rattle.transpose.specs.Transpose.{transpose_rules};
-ghost use Rattle.bench_calls.specs.Image.{image, image_over};
+ghost use Rattle.bench_calls.specs.Image.{image, image_over, board_after};
 ghost use Rattle.bench_calls.specs.Lines.{each_read, each_written, last_of};
 
 use crate::lines::{read_each, write_each};
@@ -34,6 +34,7 @@ pub extern "C" fn bench_read_stride(
 ) -> bool
     ensures answer { result ≡ each_read (image stride_rules registers.now (plain_meaning bytes.old) (length board.old)) lines }
     ensures line { line.new ≡ last_of (image stride_rules registers.now (plain_meaning bytes.old) (length board.old)) lines line.old }
+    ensures board { board.new ≡ board_after (image stride_rules registers.now (plain_meaning bytes.old) (length board.old)) board.old }
 {
     let window = opened::<Stride, Plain>(registers, Plain::new(bytes), board);
     read_each(window, lines, line)
@@ -48,7 +49,8 @@ pub extern "C" fn bench_write_stride(
     lines: u32,
     line: &[u8; 128],
 ) -> bool
-    ensures { result ≡ each_written (image stride_rules registers.now (plain_meaning bytes.old) (length board.old)) lines line.now }
+    ensures answer { result ≡ each_written (image stride_rules registers.now (plain_meaning bytes.old) (length board.old)) lines line.now }
+    ensures board { board.new ≡ board_after (image stride_rules registers.now (plain_meaning bytes.old) (length board.old)) board.old }
 {
     let window = opened::<Stride, Plain>(registers, Plain::new(bytes), board);
     write_each(window, lines, line)
@@ -65,6 +67,7 @@ pub extern "C" fn bench_read_direct(
 ) -> bool
     ensures answer { result ≡ each_read (image direct_rules registers.now (plain_meaning bytes.old) (length board.old)) lines }
     ensures line { line.new ≡ last_of (image direct_rules registers.now (plain_meaning bytes.old) (length board.old)) lines line.old }
+    ensures board { board.new ≡ board_after (image direct_rules registers.now (plain_meaning bytes.old) (length board.old)) board.old }
 {
     let window = opened::<Direct, Plain>(registers, Plain::new(bytes), board);
     read_each(window, lines, line)
@@ -80,6 +83,7 @@ pub extern "C" fn bench_read_colour(
 ) -> bool
     ensures answer { result ≡ each_read (image colour_rules registers.now (plain_meaning bytes.old) (length board.old)) lines }
     ensures line { line.new ≡ last_of (image colour_rules registers.now (plain_meaning bytes.old) (length board.old)) lines line.old }
+    ensures board { board.new ≡ board_after (image colour_rules registers.now (plain_meaning bytes.old) (length board.old)) board.old }
 {
     let window = opened::<Colour, Plain>(registers, Plain::new(bytes), board);
     read_each(window, lines, line)
@@ -95,6 +99,7 @@ pub extern "C" fn bench_read_transpose(
 ) -> bool
     ensures answer { result ≡ each_read (image transpose_rules registers.now (plain_meaning bytes.old) (length board.old)) lines }
     ensures line { line.new ≡ last_of (image transpose_rules registers.now (plain_meaning bytes.old) (length board.old)) lines line.old }
+    ensures board { board.new ≡ board_after (image transpose_rules registers.now (plain_meaning bytes.old) (length board.old)) board.old }
 {
     let window = opened::<Transpose, Plain>(registers, Plain::new(bytes), board);
     read_each(window, lines, line)
@@ -111,6 +116,7 @@ pub extern "C" fn bench_read_checked(
 ) -> bool
     ensures answer { result ≡ each_read (image stride_rules registers.now (checked_meaning bytes.old) (length board.old)) lines }
     ensures line { line.new ≡ last_of (image stride_rules registers.now (checked_meaning bytes.old) (length board.old)) lines line.old }
+    ensures board { board.new ≡ board_after (image stride_rules registers.now (checked_meaning bytes.old) (length board.old)) board.old }
 {
     let window = opened::<Stride, Checked>(registers, Checked::new(bytes), board);
     read_each(window, lines, line)
@@ -127,6 +133,7 @@ pub extern "C" fn bench_read_over_cache(
 ) -> bool
     ensures answer { result ≡ each_read (image stride_rules registers.now (cells_up (plain_meaning bytes.old)) (length board.old)) lines }
     ensures line { line.new ≡ last_of (image stride_rules registers.now (cells_up (plain_meaning bytes.old)) (length board.old)) lines line.old }
+    ensures board { board.new ≡ board_after (image stride_rules registers.now (cells_up (plain_meaning bytes.old)) (length board.old)) board.old }
 {
     let cache = Cache::new(Plain::new(bytes));
     let window = opened::<Stride, Cache<Plain>>(registers, cache, board);
@@ -144,6 +151,7 @@ pub extern "C" fn bench_read_cached(
 ) -> bool
     ensures answer { result ≡ each_read (option_map cells_up (image stride_rules registers.now (plain_meaning bytes.old) (length board.old))) lines }
     ensures line { line.new ≡ last_of (option_map cells_up (image stride_rules registers.now (plain_meaning bytes.old) (length board.old))) lines line.old }
+    ensures board { board.new ≡ board_after (image stride_rules registers.now (plain_meaning bytes.old) (length board.old)) board.old }
 {
     let cache = match opened::<Stride, Plain>(registers, Plain::new(bytes), board) {
         Some(window) => Some(Cache::new(window)),
@@ -165,6 +173,8 @@ pub extern "C" fn bench_read_over_window(
 ) -> bool
     ensures answer { result ≡ each_read (image_over stride_rules upper.now (image direct_rules lower.now (plain_meaning bytes.old) (length lower_board.old)) (length upper_board.old)) lines }
     ensures line { line.new ≡ last_of (image_over stride_rules upper.now (image direct_rules lower.now (plain_meaning bytes.old) (length lower_board.old)) (length upper_board.old)) lines line.old }
+    ensures lower_board { lower_board.new ≡ board_after (image direct_rules lower.now (plain_meaning bytes.old) (length lower_board.old)) lower_board.old }
+    ensures upper_board { upper_board.new ≡ board_after (image_over stride_rules upper.now (image direct_rules lower.now (plain_meaning bytes.old) (length lower_board.old)) (length upper_board.old)) upper_board.old }
 {
     let window = match opened::<Direct, Plain>(lower, Plain::new(bytes), lower_board) {
         Some(below) => opened::<Stride, Window<Direct, Plain>>(upper, below, upper_board),
