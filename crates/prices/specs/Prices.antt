@@ -3,10 +3,11 @@
 -- numeral n bs: the number that the digits bs say after those that say n
 -- fitting n: n, where it has 32 bits at most
 -- no_digit bs: the first of the bytes bs that is no digit
+-- said n bs: the number that the bytes bs say after the digits that say n; nothing where one is no digit, or it has more than 32 bits
 -- line_read k line: the price on the line of the number k, or what is wrong there
 -- prices text: all prices, in order, or what is wrong on the first bad line
 -- Told e p: p is the refusal e, unless e says that memory was wanting
-use Rattle.std.specs.Prelude.{◌≡◌, ℕ, ◌+◌, ◌-◌, ◌*◌, ◌^◌, cond, not, List, [], ◌∷◌, Some, None, Ok, Err, Option, Result, ◌==◌, nat_lt}
+use Rattle.std.specs.Prelude.{◌≡◌, ℕ, ◌+◌, ◌-◌, ◌*◌, ◌^◌, cond, not, is_some, List, [], ◌∷◌, Some, None, Ok, Err, Option, Result, ◌==◌, nat_lt}
 use Rattle.std.specs.Char.{is_ascii_digit}
 use Rattle.std.specs.List.{find, onto_first}
 use Rattle.std.specs.Option.{ok_or}
@@ -26,6 +27,9 @@ fitting n = cond (nat_lt n (2 ^ 32)) (Some n) None
 
 abbrev pub no_digit : List ℕ → Option ℕ
 no_digit bs = find (λ b. not (is_ascii_digit b)) bs
+
+abbrev pub said : ℕ → List ℕ → Option ℕ
+said n bs = cond (is_some (no_digit bs)) None (fitting (numeral n bs))
 
 -- a number that is no price is too large
 abbrev pub judged : ℕ → List ℕ → Option ℕ → Result ℕ InputError

@@ -1,9 +1,7 @@
 // The prices of a list, in order.
 ghost use Rattle.std.specs.Prelude.{◌≡◌, Ok, MatchResult};
-ghost use Rattle.std.specs.List.{AllPass};
 ghost use Rattle.std.specs.Option.{option_copied};
-ghost use Rattle.std.specs.Char.{is_ascii_digit};
-ghost use Rattle.prices.specs.Prices.{numeral, fitting, no_digit, line_read, prices, Told};
+ghost use Rattle.prices.specs.Prices.{said, no_digit, line_read, prices, Told};
 
 use crate::error::InputError;
 use std::alloc::Global;
@@ -38,10 +36,13 @@ fn read_line(number: usize, line: &[u8]) -> Result<u32, InputError>
     if line.is_empty() {
         return Err(InputError::EmptyLine(number));
     }
-    if let Some(byte) = first_other(line) {
-        return Err(InputError::NotADigit(number, *byte));
+    if let Some(value) = value_of(line) {
+        return Ok(value);
     }
-    value_of(line).ok_or(InputError::TooLarge(number))
+    match first_other(line) {
+        Some(byte) => Err(InputError::NotADigit(number, *byte)),
+        None => Err(InputError::TooLarge(number)),
+    }
 }
 
 // The first byte of the line that is no digit.
@@ -51,14 +52,17 @@ fn first_other(line: &[u8]) -> Option<&u8>
     line.iter().find(|byte| !byte.is_ascii_digit())
 }
 
-// The number that the digits say; nothing where it has more than 32 bits.
+// The number that the line says; nothing where a byte is no digit, or the number has more than 32 bits. A price takes one pass over its
+// line: only a refused line is searched for what is wrong.
 #[tactic(auto, using(crate::proofs::Numbers::digits))]
-fn value_of(digits: &[u8]) -> Option<u32>
-    requires { AllPass is_ascii_digit digits.now }
-    ensures { result ≡ fitting (numeral 0 digits.now) }
+fn value_of(line: &[u8]) -> Option<u32>
+    ensures { result ≡ said 0 line.now }
 {
     let mut value = 0u32;
-    for digit in digits {
+    for digit in line {
+        if !digit.is_ascii_digit() {
+            return None;
+        }
         value = value
             .checked_mul(10)?
             .checked_add(u32::from(*digit - b'0'))?;
