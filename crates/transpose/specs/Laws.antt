@@ -1,5 +1,5 @@
 -- The transpose mapping keeps the laws. Assumes nothing.
-use Rattle.std.specs.Prelude.{◌≡◌, ℕ, ◌+◌, ◌*◌, ◌/◌, ◌%◌, ◌<◌, ◌≤◌, true, ◌&&◌, List, Some, nat_le, refl}
+use Rattle.std.specs.Prelude.{◌≡◌, ℕ, ◌+◌, ◌*◌, ◌/◌, ◌%◌, ◌^◌, ◌<◌, ◌≤◌, true, ◌&&◌, List, Some, nat_le, refl}
 use Rattle.std.proofs.Common.{sym, ap, ◌∙◌, mul_assoc, mul-div_cancel, add-mul, arith}
 use Rattle.std.proofs.Math.Nat.{div-div-eq-div-mul, mul-mod_left, mod-mod_of_dvd, dvd_of_mod-eq-zero, div-mul_cancel}
 use Rattle.std.proofs.lemmas.Nat.{div-mul-add, mod-mul-add, mod_below, mul-le}
@@ -14,14 +14,14 @@ use Rattle.transpose.specs.Transpose.{address, extent, condition, element_size, 
 use Rattle.mapping.proofs.Elements.{Sized, is_sized}
 
 -- what the condition tells
-record Conditioned (I B D N : ℕ) : Type 0 where
-  size : Sized B
-  some : 0 < N
-  rows : D % B ≡ 0
-  whole : I % (B * N) ≡ 0
-  room : I / N ≤ D
+pub record Conditioned (I B D N : ℕ) : Type 0 where
+  pub size : Sized B
+  pub some : 0 < N
+  pub rows : D % B ≡ 0
+  pub whole : I % (B * N) ≡ 0
+  pub room : I / N ≤ D
 
-is_conditioned : (I B D N : ℕ) → condition I B D N ≡ true → Conditioned I B D N
+pub is_conditioned : (I B D N : ℕ) → condition I B D N ≡ true → Conditioned I B D N
 is_conditioned I B D N passed =
     let a = and_parts (is_element_size B && is_power_of_two N && divides B D && divides (B * N) I) (nat_le (I / N) D) passed in
     let b = and_parts (is_element_size B && is_power_of_two N && divides B D) (divides (B * N) I) a.0 in
@@ -55,13 +55,13 @@ module _ (I B D N : ℕ) (c : Conditioned I B D N) where
       let before = mul-le (s / B / N + 1) B (I / (B * N)) B (omega arith) (omega arith) in
       omega (arith, add-mul (s / B / N) 1 B, columns)
 
-  within : (s : ℕ) → s < I → address B D N s < extent I D N
+  pub within : (s : ℕ) → s < I → address B D N s < extent I D N
   within s below =
       let end = rest s below in
       let line = row_below (s / B % N) N D (mod_below (s / B) N c.some) in
       omega arith
 
-  apart : (s t : ℕ) → s < I → t < I → address B D N s ≡ address B D N t → s ≡ t
+  pub apart : (s t : ℕ) → s < I → t < I → address B D N s ≡ address B D N t → s ≡ t
   apart s t first second same =
       let size = c.size in
       let room = c.room in
@@ -71,10 +71,10 @@ module _ (I B D N : ℕ) (c : Conditioned I B D N) where
       let column = rows_apart (s / B / N) (s % B) (t / B / N) (t % B) B (mod_below s B (omega arith)) (mod_below t B (omega arith)) line.1 in
       split_apart s t B (split_apart (s / B) (t / B) N column.0 line.0) column.1
 
-  follows : (k i : ℕ) → i < B → address B D N (k * B + i) ≡ k % N * D + k / N * B + i
+  pub follows : (k i : ℕ) → i < B → address B D N (k * B + i) ≡ k % N * D + k / N * B + i
   follows k i small = rw (div-mul-add k B i small, mod-mul-add k B i small) refl
 
-  start : (k : ℕ) → address B D N (k * B) ≡ k % N * D + k / N * B
+  pub start : (k : ℕ) → address B D N (k * B) ≡ k % N * D + k / N * B
   start k =
       let size = c.size in
       let zero = follows k 0 (omega arith) in
@@ -82,7 +82,7 @@ module _ (I B D N : ℕ) (c : Conditioned I B D N) where
       ap (address B D N) (sym same) ∙ zero ∙ omega arith
 
   -- an element starts at a multiple of its size, and so ends in the line where it starts
-  line : (k : ℕ) → (k % N * D + k / N * B) % 128 + B ≤ 128
+  pub line : (k : ℕ) → (k % N * D + k / N * B) % 128 + B ≤ 128
   line k =
       let size = c.size in
       let v = k % N * D + k / N * B in
@@ -106,3 +106,10 @@ is_addressed rs t =
       follows = λ k i small. ap Some (follows I B D N c k i small ∙ ap (λ n. n + i) (sym (start I B D N c k)));
       line = λ k v found. let here : k % N * D + k / N * B ≡ v = sym (start I B D N c k) ∙ cc in let end = line I B D N c k in omega (arith, ap (λ n. n % 128) here);
     }
+
+-- a place of the image has 64 bits
+pub low : (rs : List ℕ) → Tested transpose_rules rs → (s : ℕ) → s < image_size rs → address (element_size rs) (row_size rs) (row_count rs) s < 2 ^ 64
+low rs t s below =
+    let far = within (image_size rs) (element_size rs) (row_size rs) (row_count rs) (is_conditioned (image_size rs) (element_size rs) (row_size rs) (row_count rs) t.condition) s below in
+    let most = t.extent_most in
+    omega arith
