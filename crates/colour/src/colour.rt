@@ -98,6 +98,10 @@ impl Addressing for ColourRegisters {
         LINE
     }
 
+    fn armed_extent(&self) -> u64 {
+        self.extent()
+    }
+
     fn place(&self, s: WindowAddress) -> Option<PseudoVirtualAddress> {
         let WindowAddress(s) = s;
         if s >= self.common.image_size() {

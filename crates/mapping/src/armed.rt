@@ -27,6 +27,15 @@ pub trait Addressing: RegisterRecord {
         requires { ArmedValues Self.rules (Self.values self.now) }
         ensures { option_map (λ v. v.0) result ≡ placed Self.rules (Self.values self.now) s.0 };
 
+    // The extent of registers that have armed. A record that has its extent apart from the condition gives just that, and does not test
+    // again what arming has tested.
+    fn armed_extent(&self) -> u64
+        requires { ArmedValues Self.rules (Self.values self.now) }
+        ensures { result ≡ Self.rules.extent (Self.values self.now) }
+    {
+        self.checked_extent().unwrap()
+    }
+
     ghost numbered: { TYPE_NUMBER ≡ Self.rules.type_number };
 
     ghost laws: { (r : Self) → ArmedValues Self.rules (Self.values r) → Lawful (layout_of Self.rules (Self.values r)) };
@@ -80,9 +89,8 @@ impl<R: Addressing> Mapping for ArmedRegisters<R> {
         self.registers.grain()
     }
 
-    // The condition holds of registers that have armed, so there is an extent.
     fn extent(&self) -> u64 {
-        self.registers.checked_extent().unwrap()
+        self.registers.armed_extent()
     }
 
     fn place(&self, s: WindowAddress) -> Option<PseudoVirtualAddress> {

@@ -97,6 +97,10 @@ impl Addressing for StrideRegisters {
         self.object_size.get()
     }
 
+    fn armed_extent(&self) -> u64 {
+        self.extent()
+    }
+
     fn place(&self, s: WindowAddress) -> Option<PseudoVirtualAddress> {
         let WindowAddress(s) = s;
         if s >= self.common.image_size() {
